@@ -1,0 +1,2 @@
+-- The definitions of whole numbers that the promises cite.
+pub mod Euclid

@@ -1,0 +1,71 @@
+//! Asks the published crate and writes its answers as lines of numbers.
+//! The one argument is the folder to write to. Each subject has a file of its
+//! own, which is named here and asked from the function of its sheet; a new
+//! sheet is added to `write_all`.
+
+mod directions;
+mod distance;
+mod doubled;
+mod generator;
+mod mapping;
+mod offset;
+mod samples;
+mod sheet;
+
+use sheet::Sheet;
+use std::path::Path;
+
+/// Ends the program with a message, so that no file is written on a wrong footing.
+pub fn stop(message: &str) -> ! {
+    eprintln!("oracle: {message}");
+    std::process::exit(1)
+}
+
+/// The questions about coordinates, directions and grids, where the paper accepts.
+fn module12() -> Sheet {
+    let mut sheet = Sheet::new(
+        "Answers of the crate hexx 0.25.0 on coordinates, directions and grids.\n\
+         Each line holds the kind, the arguments and the answer.\n\
+         Every line is a question that the paper accepts, so each refusal number is 0.",
+    );
+    distance::ask(&mut sheet);
+    offset::ask(&mut sheet);
+    doubled::ask(&mut sheet);
+    directions::ask(&mut sheet);
+    sheet
+}
+
+/// The questions on which the paper decides against the crate.
+fn differences() -> Sheet {
+    let mut sheet = Sheet::new(
+        "Answers of the crate hexx 0.25.0 where the paper decides otherwise.\n\
+         The lines have the form of the accepted ones but hold the crate's answer.\n\
+         The crate refuses nothing here, so its refusal number is written as 0.",
+    );
+    distance::differences(&mut sheet);
+    offset::differences(&mut sheet);
+    doubled::differences(&mut sheet);
+    sheet
+}
+
+/// Writes each sheet to its file and says how many lines of each kind it has.
+fn write_all(folder: &Path) {
+    for (name, sheet) in [
+        ("module12.txt", module12()),
+        ("differences.txt", differences()),
+    ] {
+        if let Err(cause) = std::fs::write(folder.join(name), sheet.text()) {
+            stop(&format!("{name} cannot be written: {cause}"));
+        }
+        println!("{name}: {}", sheet.tally());
+    }
+}
+
+fn main() {
+    let Some(folder) = std::env::args_os().nth(1) else {
+        stop("the folder to write to is missing");
+    };
+    mapping::check();
+    println!("The mapping of numbers and turning senses holds.");
+    write_all(Path::new(&folder));
+}
