@@ -1,8 +1,11 @@
 -- Each public call's promise leaves one answer: two answers that meet it are equal.
 use mathlib.Core.Path.{_≡_, sym, _∙_}
 use Prim.Native.Nat.{ℕ}
-use lib.IntN.{ℤ, natAbs, _-ℤ_}
+use lib.IntN.{ℤ, natAbs, _+ℤ_, _-ℤ_}
 use Rattle.whole.specs.Euclid.{quotient, remainder}
+
+pub sum-unique : (a b : ℤ) {r s : ℤ} → r ≡ a +ℤ b → s ≡ a +ℤ b → r ≡ s
+sum-unique a b p q = p ∙ sym q
 
 pub difference-unique : (a b : ℤ) {r s : ℤ} → r ≡ a -ℤ b → s ≡ a -ℤ b → r ≡ s
 difference-unique a b p q = p ∙ sym q

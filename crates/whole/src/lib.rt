@@ -2,14 +2,23 @@
 // None wraps, none can be undefined, and none demands anything of its caller.
 
 ghost use mathlib.Core.Path.{_≡_};
-ghost use Prim.Native.Nat.{_<_, _^_};
-ghost use lib.IntN.{pos, negsuc, natAbs, _-ℤ_};
+ghost use Prim.Native.Nat.{_<_, _≤_, _^_};
+ghost use lib.IntN.{pos, negsuc, natAbs, _+ℤ_, _-ℤ_};
 ghost use lib.Signed.{_<ℤ_};
 ghost use Rattle.whole.specs.Euclid.{quotient, remainder};
 
-// a - b, exact: the difference of two signed 32-bit numbers always fits 64 bits.
+// a + b, exact: the sum of two signed 32-bit numbers always fits 64 bits.
+pub fn sum(a: i32, b: i32) -> i64
+    ensures { λ r. ⌜ r ≡ a +ℤ b ⌝ }
+    ensures { λ r. ⌜ natAbs r ≤ 2 ^ 32 ⌝ }
+{
+    a as i64 + b as i64
+}
+
+// a - b, exact.
 pub fn difference(a: i32, b: i32) -> i64
     ensures { λ r. ⌜ r ≡ a -ℤ b ⌝ }
+    ensures { λ r. ⌜ natAbs r ≤ 2 ^ 32 ⌝ }
 {
     a as i64 - b as i64
 }

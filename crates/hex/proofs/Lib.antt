@@ -1,0 +1,6 @@
+-- Laws of tiles, directions, distance and answers, for this crate's proofs and for those above it.
+pub mod Limit
+pub mod Metric
+pub mod Tells
+pub mod Turning
+pub mod Unique

@@ -1,0 +1,36 @@
+-- Laws of the coordinate limit.
+use mathlib.Core.Path.{_≡_, _∙_, refl, ap}
+use mathlib.Core.Bool.{Bool, true, false, _&&_}
+use Prim.Native.Nat.{ℕ, _<_, _≤_}
+use native.Mathlib.Omega.{arith}
+use lib.Dec.{leb}
+use lib.IntN.{natAbs}
+use borrow.Author.Tests.{le-leb, lt-leb, leb-true}
+use Rattle.hex.specs.Limits.{coordinateLimit}
+use Rattle.hex.specs.Tiles.{withinLimit}
+use Rattle.hex.specs.declared.Tile.{Tile}
+
+and-parts : (a b : Bool) → (a && b) ≡ true → (a ≡ true) × (b ≡ true)
+and-parts true b e = (refl, e)
+and-parts false b e = let z : _≡_ {A = ℕ} 0 1 = cc in absurd (omega arith)
+
+and-false : (a : Bool) → (a && false) ≡ false
+and-false true = refl
+and-false false = refl
+
+module _ (t : Tile) where
+  pub within : natAbs (t .x) ≤ coordinateLimit → natAbs (t .y) ≤ coordinateLimit → withinLimit t ≡ true
+  unfolding withinLimit
+  within p q = rw (le-leb (natAbs (t .x)) coordinateLimit p, le-leb (natAbs (t .y)) coordinateLimit q)
+
+  pub beyond-x : coordinateLimit < natAbs (t .x) → withinLimit t ≡ false
+  unfolding withinLimit
+  beyond-x p = rw (lt-leb (natAbs (t .x)) coordinateLimit p)
+
+  pub beyond-y : coordinateLimit < natAbs (t .y) → withinLimit t ≡ false
+  unfolding withinLimit
+  beyond-y p = rw (lt-leb (natAbs (t .y)) coordinateLimit p) (and-false (leb (natAbs (t .x)) coordinateLimit))
+
+  pub within-is : withinLimit t ≡ true → (natAbs (t .x) ≤ coordinateLimit) × (natAbs (t .y) ≤ coordinateLimit)
+  unfolding withinLimit
+  within-is e = let p = and-parts _ _ e in (leb-true _ _ (p .0), leb-true _ _ (p .1))

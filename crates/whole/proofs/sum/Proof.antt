@@ -1,0 +1,26 @@
+-- `sum` meets its contract: both numbers are widened first, and then the sum cannot pass 64 bits.
+use mathlib.Core.Path.{ap, _∙_}
+use native.Mathlib.Omega.{arith}
+use lib.IntN.{natAbs}
+use mir.Facts.{toZ-ofZ}
+use Rattle.whole.proofs.Machine.{read-wide, wide-needs, wide-sum}
+use Rattle.whole.proofs.sum.Statement.{statement}
+use Rattle.whole.proofs.sum.Tie as tie
+
+cast-result : tie.Need-cast-result
+cast-result c = search wide-needs
+
+cast-result-2 : tie.Need-cast-result-2
+cast-result-2 c = search wide-needs
+
+add-result : tie.Need-add-result
+add-result c = wide-sum _ _ _ _ (read-wide (c .fits .a)) (read-wide (c .fits .b)) (c .fits .a) (c .fits .b) .0
+
+returns : tie.Need-returns
+returns c =
+    let e = toZ-ofZ (add-result c) in
+    let l = wide-sum _ _ _ _ (read-wide (c .fits .a)) (read-wide (c .fits .b)) (c .fits .a) (c .fits .b) .1 in
+    (cc (e, read-wide (c .fits .a), read-wide (c .fits .b)), omega (arith, ap natAbs e))
+
+pub sum-spec : {M : Type 1} → statement M
+sum-spec = tie.close (tie.spec cast-result cast-result-2 add-result returns)
