@@ -1,9 +1,10 @@
 -- Each public call's promise leaves one answer: two answers that meet it are equal.
 use mathlib.Core.Path.{_≡_, sym, _∙_}
+use mathlib.Core.Bool.{Bool}
 use Prim.Native.Nat.{ℕ}
 use Rattle.hex.specs.Answers.{Told, TileTells, judgedTile}
 use Rattle.hex.specs.Directions.{stepOf, turnedBy}
-use Rattle.hex.specs.Tiles.{place, neighborOf, distanceOf}
+use Rattle.hex.specs.Tiles.{place, neighborOf, distanceOf, withinLimit}
 use Rattle.hex.specs.declared.Direction.{Direction}
 use Rattle.hex.specs.declared.Place.{Place}
 use Rattle.hex.specs.declared.Step.{Step}
@@ -31,3 +32,6 @@ distance-unique a b p q = p ∙ sym q
 
 pub judged-unique : (at : Place) (r s : TileAnswer) → TileTells r (λ told. told ≡ judgedTile at) → TileTells s (λ told. told ≡ judgedTile at) → r ≡ s
 judged-unique at r s = tile-tells-one _ (one-value (judgedTile at)) r s
+
+pub within-limit-unique : (t : Tile) {r s : Bool} → r ≡ withinLimit t → s ≡ withinLimit t → r ≡ s
+within-limit-unique t p q = p ∙ sym q

@@ -5,7 +5,7 @@ pub mod refusals;
 
 ghost use mathlib.Core.Path.{_≡_};
 ghost use Prim.Native.Nat.{max};
-ghost use Rattle.hex.specs.Tiles.{place, neighborOf, distanceOf};
+ghost use Rattle.hex.specs.Tiles.{place, neighborOf, distanceOf, withinLimit};
 ghost use Rattle.hex.specs.Directions.{stepOf, turnedBy};
 ghost use Rattle.hex.specs.Answers.{TileTells, judgedTile};
 
@@ -118,4 +118,14 @@ pub fn judged(at: Place) -> TileAnswer
         x: at.x as i32,
         y: at.y as i32,
     })
+}
+
+// Is a tile within the coordinate limit?
+pub fn within_limit(tile: Tile) -> bool
+    ensures { λ r. ⌜ r ≡ withinLimit tile ⌝ }
+{
+    let TileAnswer::Found(_) = judged(place_of(tile)) else {
+        return false;
+    };
+    true
 }
