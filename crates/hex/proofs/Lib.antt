@@ -2,6 +2,7 @@
 pub mod Judging
 pub mod Limit
 pub mod Metric
+pub mod NoConstant
 pub mod Tells
 pub mod Turning
 pub mod Unique

@@ -26,7 +26,12 @@ module _ {A : Type 0} (zeros : A) where
   tells-one rule one (refusal m) (found b) p q = let z : m ≡ 0 = ap (λ (told : Told A). told .number) (one _ _ (p .1) q) in absurd (omega arith)
   tells-one rule one (refusal m) (refusal n) p q = ap (λ (told : Told A). refusal (told .number)) (one _ _ (p .1) (q .1))
 
--- The same of an enum of the code, from what leads back to it.
+  -- No one answer tells two rules that nothing told meets both of: refusing everything, or answering the same always, meets no promise that tells two inputs apart.
+  pub tells-both : (P Q : Told A → Type 0) → ((told : Told A) → P told → Q told → ⊥) → (a : Answer A) → Tells zeros a P → Tells zeros a Q → ⊥
+  tells-both P Q apart (found a) p q = apart _ p q
+  tells-both P Q apart (refusal n) p q = apart _ (p .1) (q .1)
+
+-- One answer at most, of an enum of the code, from what leads back to it.
 pub enum-tells-one : {A R : Type 0} (zeros : A) (read : R → Answer A) (back : Answer A → R) → ((r : R) → back (read r) ≡ r) → (rule : Told A → Type 0) → One rule → (r s : R) → Tells zeros (read r) rule → Tells zeros (read s) rule → r ≡ s
 enum-tells-one zeros read back is rule one r s p q = sym (is r) ∙ ap back (tells-one zeros rule one (read r) (read s) p q) ∙ is s
 

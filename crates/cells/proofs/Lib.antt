@@ -1,0 +1,2 @@
+-- That every marked cell holds.
+pub mod Marked

@@ -1,0 +1,2 @@
+-- The cells worked by hand that the paper marks.
+pub mod Marked

@@ -1,0 +1,5 @@
+// Runs the recorded answers of the oracle on standard input against the crates, and prints the report.
+
+fn main() {
+    vectors::run();
+}

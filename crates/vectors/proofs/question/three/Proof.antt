@@ -1,0 +1,35 @@
+-- `three` is safe: a store keeps the length of the answer.
+use native.Mathlib.Omega.{arith}
+use lib.ListN.{length-set}
+use borrow.Author.Needs.{needs}
+use Rattle.vectors.proofs.question.three.Statement.{statement}
+use Rattle.vectors.proofs.question.three.Tie as tie
+
+returns : tie.Need-returns
+returns c = search needs
+
+slice-set-from-first : tie.Need-slice-set-from-first
+slice-set-from-first c = search needs
+
+slice-set-from-second : tie.Need-slice-set-from-second
+slice-set-from-second c = simp length-set (omega arith)
+
+slice-set-from-third : tie.Need-slice-set-from-third
+slice-set-from-third c = search needs
+
+same-length : tie.Need-same-length
+same-length c = search needs
+
+returns-2 : tie.Need-returns-2
+returns-2 c = search needs
+
+pub three-spec : {M : Type 1} → statement M
+three-spec =
+    tie.close
+    (tie.spec
+    returns
+    slice-set-from-first
+    slice-set-from-second
+    slice-set-from-third
+    same-length
+    returns-2)

@@ -1,0 +1,71 @@
+-- `print` is safe and ends: the kinds run up to the length of the counts.
+use Prim.Native.Nat.{_≤_, _-_}
+use lib.ListN.{length}
+use borrow.Author.Needs.{needs}
+use Rattle.vectors.proofs.report.print.Statement.{statement}
+use Rattle.vectors.proofs.report.print.Tie as tie
+
+abbrev Inv-loop : tie.InvT-loop
+Inv-loop tally ran differing kind₀ t5 kind = kind ≤ length ran
+
+abbrev μ-loop : tie.MeasureT-loop
+μ-loop tally ran differing kind₀ t5 kind = length ran - kind
+
+loop-holds : tie.Need-loop-holds Inv-loop μ-loop
+loop-holds c = search needs
+
+mul-print-kind : tie.Need-mul-print-kind Inv-loop μ-loop
+mul-print-kind c = search needs
+
+shared-slice-read-print-kind : tie.Need-shared-slice-read-print-kind Inv-loop μ-loop
+shared-slice-read-print-kind c = search needs
+
+mul-print-kind-2 : tie.Need-mul-print-kind-2 Inv-loop μ-loop
+mul-print-kind-2 c = search needs
+
+shared-slice-read-print-kind-2 : tie.Need-shared-slice-read-print-kind-2 Inv-loop μ-loop
+shared-slice-read-print-kind-2 c = search needs
+
+print-kind-requires : tie.Need-print-kind-requires Inv-loop μ-loop
+print-kind-requires c κs = search needs
+
+add-kind : tie.Need-add-kind Inv-loop μ-loop
+add-kind c = search needs
+
+loop-less : tie.Need-loop-less Inv-loop μ-loop
+loop-less c = search needs
+
+loop-again : tie.Need-loop-again Inv-loop μ-loop
+loop-again c = search needs
+
+print-decimal-requires : tie.Need-print-decimal-requires Inv-loop μ-loop
+print-decimal-requires c κs = search needs
+
+slice-aggregate-write-all : tie.Need-slice-aggregate-write-all Inv-loop μ-loop
+slice-aggregate-write-all c = search needs
+
+write-all-requires : tie.Need-write-all-requires Inv-loop μ-loop
+write-all-requires c κs = search needs
+
+returns : tie.Need-returns Inv-loop μ-loop
+returns c = search needs
+
+pub print-spec : {M : Type 1} → statement M
+print-spec =
+    tie.close
+    (tie.spec
+    Inv-loop
+    μ-loop
+    loop-holds
+    mul-print-kind
+    shared-slice-read-print-kind
+    mul-print-kind-2
+    shared-slice-read-print-kind-2
+    print-kind-requires
+    add-kind
+    loop-less
+    loop-again
+    print-decimal-requires
+    slice-aggregate-write-all
+    write-all-requires
+    returns)
