@@ -6,7 +6,7 @@ use native.Mathlib.Omega.{arith}
 use lib.IntN.{pos, natAbs}
 use Rattle.hex.specs.Answers.{Told, accepted, origin, tileAnswer, TileTells, judgedTile}
 use Rattle.hex.specs.Directions.{stepOf, turnedBy}
-use Rattle.hex.specs.Tiles.{tile, place, length, neighborOf, distanceOf, withinLimit}
+use Rattle.hex.specs.Tiles.{tile, place, span, neighborOf, distanceOf, withinLimit}
 use Rattle.hex.specs.declared.Direction.{Direction}
 use Rattle.hex.specs.declared.Place.{Place}
 use Rattle.hex.specs.declared.Step.{Step}
@@ -44,7 +44,7 @@ unfolding neighborOf stepOf
 neighbor-no-constant r h = apart (λ (p : Place). natAbs (p .x)) (h origin 2) (h origin 0) refl refl
 
 pub distance-no-constant : (r : ℕ) → ((a b : Tile) → r ≡ distanceOf a b) → ⊥
-unfolding one distanceOf length
+unfolding one distanceOf span
 distance-no-constant r h = apart (λ (n : ℕ). n) (h origin origin) (h origin one) refl refl
 
 pub judged-no-constant : (r : TileAnswer) → ((at : Place) → TileTells r (λ told. told ≡ judgedTile at)) → ⊥

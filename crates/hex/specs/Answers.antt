@@ -1,4 +1,4 @@
--- Answers in the paper's terms: a refusal number, 0 when the input is accepted, and values, which are zeros with a refusal.
+-- Answers in the paper's terms: a refusal number, 0 when the input is accepted, and a value, whose numbers are zeros with a refusal.
 use mathlib.Core.Bool.{Bool, cond}
 use Prim.Native.Nat.{ℕ, _<_}
 use lib.IntN.{pos}

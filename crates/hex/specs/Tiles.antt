@@ -22,12 +22,12 @@ tileAt p = record { x = p .x; y = p .y }
 unfoldable pub neighborOf : Tile → ℕ → Tile
 neighborOf t d = tile (t .x +ℤ stepOf d .0) (t .y +ℤ stepOf d .1)
 
--- The distance of two coordinate differences, and of two tiles.
-unfoldable pub length : ℤ → ℤ → ℕ
-length dx dy = max (max (natAbs dx) (natAbs dy)) (natAbs (dx +ℤ dy))
+-- How far two coordinate differences lead, and the distance of two tiles.
+unfoldable pub span : ℤ → ℤ → ℕ
+span dx dy = max (max (natAbs dx) (natAbs dy)) (natAbs (dx +ℤ dy))
 
 unfoldable pub distanceOf : Tile → Tile → ℕ
-distanceOf a b = length (b .x -ℤ a .x) (b .y -ℤ a .y)
+distanceOf a b = span (b .x -ℤ a .x) (b .y -ℤ a .y)
 
 -- Both coordinates are within the limit.
 unfoldable pub withinLimit : Tile → Bool

@@ -12,7 +12,7 @@ pub(crate) enum Verdict {
     Unreadable,
 }
 
-// Runs the vector that a line's words are. The words after the question are the expected answer, and must be as many as the answer has.
+// Runs the vector that a line's words are. The words after the question are the expected answer; one with more or fewer numbers differs.
 pub(crate) fn judged(words: &[i64], answer: &mut [i64]) -> Verdict {
     let UnsignedArgument::Is(kind) = unsigned_at(words, 0) else {
         return Verdict::Unreadable;
@@ -26,7 +26,7 @@ pub(crate) fn judged(words: &[i64], answer: &mut [i64]) -> Verdict {
     }
     let expected = &words[took..];
     if expected.len() != extent.wrote {
-        return Verdict::Unreadable;
+        return Verdict::Differs(kind);
     }
     if same(expected, answer) {
         Verdict::Agrees(kind)

@@ -10,7 +10,7 @@ use borrow.Author.Needs.{needs}
 use Rattle.whole.proofs.Differences.{by4}
 use Rattle.whole.proofs.Kit.{dif-b}
 use Rattle.whole.proofs.Machine.{read}
-use Rattle.hex.specs.Tiles.{distanceOf, length}
+use Rattle.hex.specs.Tiles.{distanceOf, span}
 use Rattle.hex.proofs.distance.Statement.{statement}
 use Rattle.hex.proofs.distance.Tie as tie
 
@@ -45,7 +45,7 @@ larger-requires-2 : tie.Need-larger-requires-2
 larger-requires-2 c κs = search needs
 
 returns : tie.Need-returns
-unfolding distanceOf length
+unfolding distanceOf span
 returns c =
     let l = c .before .before in
     let y = l .before .before .before in
