@@ -1,7 +1,7 @@
 -- Laws of the way back from any grid: what is told where a tile is known that converts to the pair, and that one answer at most is told where no two tiles convert to the same pair.
 use mathlib.Core.Path.{_≡_, refl, sym, ap, subst, _∙_}
-use mathlib.Core.Bool.{Bool, true, false, cond, _&&_}
-use Prim.Native.Nat.{ℕ, _≤_}
+use mathlib.Core.Bool.{Bool, true, false, cond}
+use Prim.Native.Nat.{ℕ}
 use native.Mathlib.Omega.{arith}
 use borrow.Author.Tests.{le-leb, lt-leb}
 use Rattle.hex.specs.Answers.{Told, Answer, found, refusal, accepted, origin, tileAnswer, TileTells, refusedTile, judgedTile}
@@ -27,16 +27,6 @@ one-known {n} e = le-leb n 1 (omega arith)
 
 pub known-no : (n : ℕ) → (n ≡ 0 → ⊥) → (n ≡ 1 → ⊥) → known n ≡ false
 known-no n f g = lt-leb n 1 (omega arith)
-
-pub both-known : {a b : Bool} → a ≡ true → b ≡ true → (a && b) ≡ true
-both-known p q = rw (p, q)
-
-pub first-unknown : {a : Bool} (b : Bool) → a ≡ false → (a && b) ≡ false
-first-unknown b p = rw p
-
-pub second-unknown : (a : Bool) {b : Bool} → b ≡ false → (a && b) ≡ false
-second-unknown true p = p
-second-unknown false p = refl
 
 -- The three ends of the way there.
 module _ (t : Tile) (chosen : Bool) (p : GridPair) where

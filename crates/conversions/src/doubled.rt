@@ -1,34 +1,38 @@
-// The coordinate that doubled coordinates double, there and back.
+// Doubled width: the column is twice x and y more, so it and the row are both odd or both even.
 
+use crate::GridAnswer;
+use crate::GridPair;
+use hex::Place;
+use hex::Tile;
+use hex::TileAnswer;
+use hex::refusals;
 ghost use mathlib.Core.Path.{_≡_};
-ghost use Prim.Native.Nat.{_≤_};
-ghost use lib.IntN.{pos, natAbs, _+ℤ_, _-ℤ_, _*ℤ_};
-ghost use Rattle.hex.specs.Limits.{coordinateLimit};
-ghost use Rattle.conversions.specs.Leaves.{HalvedIs};
+ghost use mathlib.Core.Bool.{true};
+ghost use Rattle.hex.specs.Answers.{TileTells};
+ghost use Rattle.conversions.specs.Doubled.{doubledOf};
+ghost use Rattle.conversions.specs.Grid.{GridTells, toGrid, FromGrid};
 
-// 2a + b, of two coordinates within the limit.
-pub(crate) fn twice(a: i32, b: i32) -> i32
-    requires { ⌜ natAbs a ≤ coordinateLimit ⌝ }
-    requires { ⌜ natAbs b ≤ coordinateLimit ⌝ }
-    ensures { λ r. ⌜ r ≡ pos 2 *ℤ a +ℤ b ⌝ }
+pub(crate) fn to_width(tile: Tile) -> GridAnswer
+    ensures { λ r. ⌜ GridTells r (λ told. told ≡ toGrid tile true (doubledOf 0 tile)) ⌝ }
 {
-    2 * a + b
-}
-
-// The half, or that the difference is odd and has none.
-pub(crate) enum Halved {
-    To(i64),
-    Odd,
-}
-
-// Half of a - b, exact. a - b is odd exactly if a + b is.
-pub(crate) fn half_of_gap(a: i32, b: i32) -> Halved
-    ensures { λ r. ⌜ HalvedIs (a -ℤ b) r ⌝ }
-{
-    let gap = whole::difference(a, b);
-    if whole::wrapped(gap, 2) == 0 {
-        Halved::To(whole::half(gap))
-    } else {
-        Halved::Odd
+    if !hex::within_limit(tile) {
+        return GridAnswer::Refused(refusals::BEYOND_LIMIT);
     }
+    GridAnswer::Found(GridPair {
+        column: 2 * tile.x + tile.y,
+        row: tile.y,
+    })
+}
+
+pub(crate) fn from_width(pair: GridPair) -> TileAnswer
+    ensures { λ r. ⌜ TileTells r (FromGrid true (doubledOf 0) pair) ⌝ }
+{
+    let gap = whole::difference(pair.column, pair.row);
+    if whole::wrapped(gap, 2) != 0 {
+        return TileAnswer::Refused(refusals::ODD_PAIR);
+    }
+    hex::judged(Place {
+        x: whole::half(gap),
+        y: pair.row as i64,
+    })
 }

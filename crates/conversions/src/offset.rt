@@ -1,44 +1,60 @@
-// How an offset grid slants: by how much the row of a flat grid's column, or the column of a pointy grid's row, differs from the tile's own coordinate.
+// Offset coordinates of a flat grid. A column slants: its rows differ from the tiles' y by half of the column's number.
 
-ghost use lib.IntN.{_+ℤ_, _-ℤ_};
-ghost use Rattle.conversions.specs.Leaves.{ShiftIs};
-ghost use Rattle.conversions.specs.Offset.{slantOf};
+use crate::GridAnswer;
+use crate::GridPair;
+use hex::Place;
+use hex::Tile;
+use hex::TileAnswer;
+use hex::refusals;
+ghost use mathlib.Core.Path.{_≡_};
+ghost use Rattle.hex.specs.Answers.{TileTells};
+ghost use Rattle.conversions.specs.Grid.{GridTells, known, toGrid, FromGrid};
+ghost use Rattle.conversions.specs.Leaves.{SlantIs};
+ghost use Rattle.conversions.specs.Offset.{slantOf, offsetOf};
 
-// A number, or that the mode is unknown.
-pub(crate) enum Shift {
-    To(i64),
+// How far a column slants, or that the mode is unknown.
+enum Slant {
+    By(i64),
     Unknown,
 }
 
 // Half of z + p in mode Even and of z - p in mode Odd, with p 1 for an odd z, also a negative one, else 0. Both sums are even, so the halves are exact.
-fn slant_of(z: i32, mode: u32) -> Shift
-    ensures { λ r. ⌜ ShiftIs mode (slantOf mode z) r ⌝ }
+fn slant_of(z: i32, mode: u32) -> Slant
+    ensures { λ r. ⌜ SlantIs mode (slantOf mode z) r ⌝ }
 {
     let wide = z as i64;
     let p = whole::wrapped(wide, 2) as i64;
     match mode {
-        0 => Shift::To(whole::half(wide + p)),
-        1 => Shift::To(whole::half(wide - p)),
-        _ => Shift::Unknown,
+        0 => Slant::By(whole::half(wide + p)),
+        1 => Slant::By(whole::half(wide - p)),
+        _ => Slant::Unknown,
     }
 }
 
-// The coordinate across the slant, shifted by the slant of the one along it.
-pub(crate) fn shifted(along: i32, across: i32, mode: u32) -> Shift
-    ensures { λ r. ⌜ ShiftIs mode (across +ℤ slantOf mode along) r ⌝ }
+pub(crate) fn to_flat(tile: Tile, mode: u32) -> GridAnswer
+    ensures { λ r. ⌜ GridTells r (λ told. told ≡ toGrid tile (known mode) (offsetOf mode 0 tile)) ⌝ }
 {
-    let Shift::To(by) = slant_of(along, mode) else {
-        return Shift::Unknown;
+    if !hex::within_limit(tile) {
+        return GridAnswer::Refused(refusals::BEYOND_LIMIT);
+    }
+    let Slant::By(by) = slant_of(tile.x, mode) else {
+        return GridAnswer::Refused(refusals::UNKNOWN_NUMBER);
     };
-    Shift::To(across as i64 + by)
+    let row = tile.y as i64 + by;
+    GridAnswer::Found(GridPair {
+        column: tile.x,
+        row: row as i32,
+    })
 }
 
-// The same, shifted back.
-pub(crate) fn shifted_back(along: i32, across: i32, mode: u32) -> Shift
-    ensures { λ r. ⌜ ShiftIs mode (across -ℤ slantOf mode along) r ⌝ }
+pub(crate) fn from_flat(pair: GridPair, mode: u32) -> TileAnswer
+    ensures { λ r. ⌜ TileTells r (FromGrid (known mode) (offsetOf mode 0) pair) ⌝ }
 {
-    let Shift::To(by) = slant_of(along, mode) else {
-        return Shift::Unknown;
+    let Slant::By(by) = slant_of(pair.column, mode) else {
+        return TileAnswer::Refused(refusals::UNKNOWN_NUMBER);
     };
-    Shift::To(across as i64 - by)
+    hex::judged(Place {
+        x: pair.column as i64,
+        y: pair.row as i64 - by,
+    })
 }

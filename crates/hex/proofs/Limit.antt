@@ -39,14 +39,8 @@ module _ (t : Tile) where
   unfolding withinLimit
   within-is e = let p = and-parts _ _ e in (leb-true _ _ (p .0), leb-true _ _ (p .1))
 
-  -- A coordinate within the limit is read back from 32 bits, and what is read is within it.
+  -- A coordinate within the limit is read back from 32 bits.
   pub within-read : withinLimit t ≡ true → (toZ w32 (ofZ w32 (t .x)) ≡ t .x) × (toZ w32 (ofZ w32 (t .y)) ≡ t .y)
   within-read e =
       let p = within-is e in
       (toZ-ofZ (small-fits (t .x) (omega arith)), toZ-ofZ (small-fits (t .y) (omega arith)))
-
-  pub read-within : withinLimit t ≡ true → (natAbs (toZ w32 (ofZ w32 (t .x))) ≤ coordinateLimit) × (natAbs (toZ w32 (ofZ w32 (t .y))) ≤ coordinateLimit)
-  read-within e =
-      let p = within-is e in
-      let r = within-read e in
-      (rw (r .0) (p .0), rw (r .1) (p .1))

@@ -1,59 +1,59 @@
--- `to_doubled_coordinates` meets its contract: each arm of the match is a case of the definition, and past the first test the tile is within the limit.
-use mathlib.Core.Path.{_≡_, sym, _∙_}
+-- `to_doubled_coordinates` meets its contract: width converts the tile as it is, and height mirrors it.
+use mathlib.Core.Path.{refl}
 use mathlib.Core.Bool.{true}
-use native.Mathlib.Omega.{arith}
-use mir.Syntax.{w32}
 use borrow.Author.Needs.{needs}
-use borrow.Author.Tests.{not-true, not-false}
-use Rattle.whole.proofs.Machine.{read}
-use Rattle.hex.specs.Tiles.{withinLimit}
-use Rattle.hex.proofs.Limit.{within-read, read-within}
-use Rattle.conversions.specs.Grid.{known}
 use Rattle.conversions.specs.Doubled.{doubledOf}
-use Rattle.conversions.proofs.GridLaws.{zero-known, one-known, known-no, to-beyond, to-unknown, to-found}
-use Rattle.conversions.proofs.DoubledLaws.{width-is, height-is}
+use Rattle.conversions.specs.Grid.{known}
+use Rattle.conversions.proofs.Chosen.{told-same, to-doubled-chosen, to-none}
+use Rattle.conversions.proofs.GridLaws.{known-no}
+use Rattle.conversions.proofs.Mirror.{height-mirrors, mirror-there}
 use Rattle.conversions.proofs.to_doubled_coordinates.Statement.{statement}
 use Rattle.conversions.proofs.to_doubled_coordinates.Tie as tie
 
-near : (c : tie.Else1) → withinLimit (c .before .before .args .tile) ≡ true
-near c = sym (c .before .within-limit .ensures) ∙ not-false _ (c .if1 .left)
+to-width-requires : tie.Need-to-width-requires
+to-width-requires c κs = search needs
 
-within-limit-requires : tie.Need-within-limit-requires
-within-limit-requires c κs = search needs
+tile-requires : tie.Need-tile-requires
+tile-requires c κs = search needs
+
+to-width-requires-2 : tie.Need-to-width-requires-2
+to-width-requires-2 c κs = search needs
+
+pair-answer-requires : tie.Need-pair-answer-requires
+pair-answer-requires c κs = search needs
+
+unknown-requires : tie.Need-unknown-requires
+unknown-requires c κs = search needs
 
 returns : tie.Need-returns
-returns c = (omega arith, to-beyond _ _ _ (sym (c .before .within-limit .ensures) ∙ not-true _ (c .if1 .taken)))
-
-twice-requires : tie.Need-twice-requires
-twice-requires c κs = let e = c .before .before .before in read-within _ (near e)
-
-twice-requires-2 : tie.Need-twice-requires-2
-twice-requires-2 c κs = let l = read-within _ (near (c .before .before .before)) in (l .1, l .0)
+returns c =
+    let m = c .before in
+    let s = m .before .args in
+    told-same (c .to-width .result) (to-doubled-chosen (s .mode) 0 (m .match .keys1) refl (s .tile)) (c .to-width .ensures)
 
 returns-2 : tie.Need-returns-2
 returns-2 c =
-    let m = c .before .before .before .before in
-    let n = near (m .before) in
-    let r = within-read _ n in
-    let t = c .before .twice in
-    let s = m .before .before .before in
-    to-found (s .args .tile) (known (s .args .mode)) (doubledOf (s .args .mode) (s .args .tile)) n (zero-known (m .match .keys1)) _
-    (cc (read w32 (t .result) (t .ok), r .0, r .1, width-is (s .args .mode) (s .args .tile) (m .match .keys1)))
+    let f = c .before in
+    let m = f .before .before in
+    let s = m .before .args in
+    told-same (c .pair-answer .result) (to-doubled-chosen (s .mode) 1 (m .match .keys2) refl (s .tile))
+    (mirror-there (doubledOf 0) (doubledOf 1) height-mirrors (s .tile) true (f .to-width2 .result) (c .pair-answer .result) (f .before .tile .ensures) (f .to-width2 .ensures) (c .pair-answer .ensures))
 
 returns-3 : tie.Need-returns-3
 returns-3 c =
-    let m = c .before .before .before .before in
-    let n = near (m .before) in
-    let r = within-read _ n in
-    let t = c .before .twice2 in
-    let s = m .before .before .before in
-    to-found (s .args .tile) (known (s .args .mode)) (doubledOf (s .args .mode) (s .args .tile)) n (one-known (m .match .keys2)) _
-    (cc (read w32 (t .result) (t .ok), r .0, r .1, height-is (s .args .mode) (s .args .tile) (m .match .keys2)))
-
-returns-4 : tie.Need-returns-4
-returns-4 c = (omega arith, to-unknown _ _ _ (near (c .before)) (known-no _ (c .match .rest .0 .1) (c .match .rest .1)))
+    let m = c .before in
+    let s = m .before .args in
+    told-same (c .unknown .result) (to-none (s .tile) (known (s .mode)) (doubledOf (s .mode) (s .tile)) (known-no (s .mode) (m .match .rest .0 .1) (m .match .rest .1))) (c .unknown .ensures)
 
 pub to-doubled-coordinates-spec : {M : Type 1} → statement M
 to-doubled-coordinates-spec =
     tie.close
-    (tie.spec within-limit-requires returns twice-requires twice-requires-2 returns-2 returns-3 returns-4)
+    (tie.spec
+    to-width-requires
+    tile-requires
+    to-width-requires-2
+    pair-answer-requires
+    unknown-requires
+    returns
+    returns-2
+    returns-3)
