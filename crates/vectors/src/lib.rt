@@ -1,6 +1,8 @@
 // Runs vectors of numbers against the crates: each line of standard input asks one question and says the answer that is expected.
 // A line holds a kind, the arguments and the answer as whole numbers; `#` opens a comment, and an empty line is skipped.
+// A line whose answer is another one is told with the answer that the crates give, so that a question can be asked by leaving the answer out.
 
+mod answer;
 mod arguments;
 mod question;
 mod report;
@@ -8,8 +10,8 @@ mod verdict;
 mod words;
 
 use libc::STDIN_FILENO;
-use question::KINDS;
-use report::Tally;
+use report::COUNTS;
+use verdict::Verdict;
 use words::Line;
 use words::Reading;
 
@@ -19,129 +21,75 @@ const WORDS: usize = 2048;
 // How many blocks of input are read at most, since every loop must end: 64 TiB in all.
 const BLOCKS: u32 = 1073741824;
 
-// What is kept from block to block.
-struct Progress {
-    reading: Reading,
-    tally: Tally,
-}
-
-// What a read gave: progress, or the end of the input.
-enum Turn {
-    More(Progress),
-    End,
-}
-
 // Reads standard input to its end, runs every vector, and prints the report. A line feed is added, so that a last line without one counts too.
 pub fn run() {
     let mut words = [0i64; WORDS];
-    let mut answer = [0i64; WORDS];
-    let mut ran = [0u64; KINDS];
-    let mut differing = [0u64; KINDS];
-    let progress = all(&mut words, &mut answer, &mut ran, &mut differing);
-    let last = bytes(
-        progress,
-        b"\n",
-        &mut words,
-        &mut answer,
-        &mut ran,
-        &mut differing,
-    );
-    report::print(last.tally, &ran, &differing);
+    let mut counts = [0u64; COUNTS];
+    let reading = all(&mut words, &mut counts);
+    bytes(reading, b"\n", &mut words, &mut counts);
+    report::print(&counts);
 }
 
 // Takes in the whole input, block by block.
-fn all(words: &mut [i64], answer: &mut [i64], ran: &mut [u64], differing: &mut [u64]) -> Progress {
-    let mut progress = Progress {
-        reading: words::line_start(),
-        tally: report::nothing(),
-    };
+fn all(words: &mut [i64], counts: &mut [u64]) -> Reading {
+    let mut buffer = io::large_buffer();
+    let mut reading = words::line_start();
     let mut blocks = BLOCKS;
     while blocks > 0 {
-        let Turn::More(next) = block(progress, words, answer, ran, differing) else {
+        let n = io::read_full(STDIN_FILENO, &mut buffer);
+        if n == 0 {
             break;
-        };
-        progress = next;
+        }
+        reading = bytes(reading, &buffer[..n], words, counts);
         blocks -= 1;
     }
-    progress
-}
-
-// Reads one block of input and takes it in.
-fn block(
-    progress: Progress,
-    words: &mut [i64],
-    answer: &mut [i64],
-    ran: &mut [u64],
-    differing: &mut [u64],
-) -> Turn {
-    let mut buffer = io::large_buffer();
-    let n = io::read_full(STDIN_FILENO, &mut buffer);
-    if n == 0 {
-        return Turn::End;
-    }
-    Turn::More(bytes(progress, &buffer[..n], words, answer, ran, differing))
+    reading
 }
 
 // Takes in bytes one by one.
-fn bytes(
-    start: Progress,
-    s: &[u8],
-    words: &mut [i64],
-    answer: &mut [i64],
-    ran: &mut [u64],
-    differing: &mut [u64],
-) -> Progress {
-    let mut progress = start;
+fn bytes(start: Reading, s: &[u8], words: &mut [i64], counts: &mut [u64]) -> Reading {
+    let mut reading = start;
     let mut i: usize = 0;
     while i < s.len() {
-        progress = byte(progress, s[i], words, answer, ran, differing);
+        reading = byte(reading, s[i], words, counts);
         i += 1;
     }
-    progress
+    reading
 }
 
 // Takes in one byte. A line feed ends a line, whose vector is run there.
-fn byte(
-    progress: Progress,
-    b: u8,
-    words: &mut [i64],
-    answer: &mut [i64],
-    ran: &mut [u64],
-    differing: &mut [u64],
-) -> Progress {
-    let before = progress.reading;
-    let tally = progress.tally;
+fn byte(before: Reading, b: u8, words: &mut [i64], counts: &mut [u64]) -> Reading {
     let reading = words::taken(before, b, words);
     if b == b'\n' {
-        let counted = line(reading, tally, words, answer, ran, differing);
-        return Progress {
-            reading: words::line_start(),
-            tally: counted,
-        };
+        line(reading, words, counts);
+        return words::line_start();
     }
-    Progress { reading, tally }
+    reading
 }
 
 // A line that has ended: its vector is run, unless it has none.
-fn line(
-    reading: Reading,
-    tally: Tally,
-    words: &[i64],
-    answer: &mut [i64],
-    ran: &mut [u64],
-    differing: &mut [u64],
-) -> Tally {
-    let counted = report::next_line(tally);
+fn line(reading: Reading, words: &[i64], counts: &mut [u64]) {
+    report::next_line(counts);
     match words::line_of(reading) {
-        Line::Skipped => counted,
-        Line::Spoilt => report::unreadable(counted),
+        Line::Skipped => {}
+        Line::Spoilt => report::unreadable(counts),
         Line::Words(count) => {
             // No more words are counted than were stored, but the count alone does not say so.
             if count > words.len() {
-                return report::unreadable(counted);
+                report::unreadable(counts);
+                return;
             }
-            let verdict = verdict::judged(&words[..count], answer);
-            report::noted(counted, verdict, ran, differing)
+            vector(&words[..count], counts);
         }
+    }
+}
+
+// Runs the vector that a line's words are, and counts what it showed.
+fn vector(words: &[i64], counts: &mut [u64]) {
+    let mut answer = [0i64; WORDS];
+    match verdict::judged(words, &mut answer) {
+        Verdict::Agrees(kind) => report::agrees(counts, kind),
+        Verdict::Differs(kind, length) => report::differs(counts, kind, &answer, length),
+        Verdict::Unreadable => report::unreadable(counts),
     }
 }

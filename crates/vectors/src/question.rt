@@ -1,4 +1,4 @@
-// The questions: for each kind, which arguments its words are, which call it makes, and how the answer is laid out.
+// The questions: for each kind, which arguments its words are, which call it makes, and which numbers its answer is.
 
 use crate::arguments::PairArgument;
 use crate::arguments::TileArgument;
@@ -10,49 +10,52 @@ use conversions::GridAnswer;
 use hex::Direction;
 use hex::TileAnswer;
 
-// Every kind has a number below this: the counts by kind have as many places.
-pub(crate) const KINDS: usize = 64;
+// Every kind has a number below this: as many kinds are counted.
+pub(crate) const KINDS: u32 = 64;
 
-// How many words a question took, its kind included, and how many numbers its answer has.
-pub(crate) struct Extent {
+// An answer of at most three numbers, with how many words its question took, the kind included, and how many numbers it has. Numbers past the last are 0.
+pub(crate) struct Answer {
     pub(crate) took: usize,
-    pub(crate) wrote: usize,
+    pub(crate) length: usize,
+    pub(crate) first: i64,
+    pub(crate) second: i64,
+    pub(crate) third: i64,
 }
 
 // What became of a question.
 pub(crate) enum Asked {
-    Answered(Extent),
+    Answered(Answer),
     Unreadable,
 }
 
-// Asks the question that the words begin with, and writes its answer.
-pub(crate) fn answered(kind: u32, words: &[i64], answer: &mut [i64]) -> Asked {
+// Asks the question that the words begin with.
+pub(crate) fn answered(kind: u32, words: &[i64]) -> Asked {
     match kind {
-        1 => distance(words, answer),
-        2 => to_offset(words, answer),
-        3 => from_offset(words, answer),
-        4 => to_doubled(words, answer),
-        5 => from_doubled(words, answer),
-        6 => neighbor(words, answer),
-        7 => opposite(words, answer),
-        8 => turned(words, answer),
+        1 => distance(words),
+        2 => to_offset(words),
+        3 => from_offset(words),
+        4 => to_doubled(words),
+        5 => from_doubled(words),
+        6 => neighbor(words),
+        7 => opposite(words),
+        8 => turned(words),
         _ => Asked::Unreadable,
     }
 }
 
 // 1 ax ay bx by | distance
-fn distance(words: &[i64], answer: &mut [i64]) -> Asked {
+fn distance(words: &[i64]) -> Asked {
     let TileArgument::Is(a) = tile_at(words, 1, 2) else {
         return Asked::Unreadable;
     };
     let TileArgument::Is(b) = tile_at(words, 3, 4) else {
         return Asked::Unreadable;
     };
-    one(answer, 5, whole(hex::distance(a, b)))
+    one(5, whole(hex::distance(a, b)))
 }
 
 // 2 x y mode orientation | refusal column row
-fn to_offset(words: &[i64], answer: &mut [i64]) -> Asked {
+fn to_offset(words: &[i64]) -> Asked {
     let TileArgument::Is(tile) = tile_at(words, 1, 2) else {
         return Asked::Unreadable;
     };
@@ -63,14 +66,13 @@ fn to_offset(words: &[i64], answer: &mut [i64]) -> Asked {
         return Asked::Unreadable;
     };
     grid_answer(
-        answer,
         5,
         conversions::to_offset_coordinates(tile, mode, orientation),
     )
 }
 
 // 3 column row mode orientation | refusal x y
-fn from_offset(words: &[i64], answer: &mut [i64]) -> Asked {
+fn from_offset(words: &[i64]) -> Asked {
     let PairArgument::Is(pair) = pair_at(words, 1, 2) else {
         return Asked::Unreadable;
     };
@@ -81,36 +83,35 @@ fn from_offset(words: &[i64], answer: &mut [i64]) -> Asked {
         return Asked::Unreadable;
     };
     tile_answer(
-        answer,
         5,
         conversions::from_offset_coordinates(pair, mode, orientation),
     )
 }
 
 // 4 x y mode | refusal column row
-fn to_doubled(words: &[i64], answer: &mut [i64]) -> Asked {
+fn to_doubled(words: &[i64]) -> Asked {
     let TileArgument::Is(tile) = tile_at(words, 1, 2) else {
         return Asked::Unreadable;
     };
     let UnsignedArgument::Is(mode) = unsigned_at(words, 3) else {
         return Asked::Unreadable;
     };
-    grid_answer(answer, 4, conversions::to_doubled_coordinates(tile, mode))
+    grid_answer(4, conversions::to_doubled_coordinates(tile, mode))
 }
 
 // 5 column row mode | refusal x y
-fn from_doubled(words: &[i64], answer: &mut [i64]) -> Asked {
+fn from_doubled(words: &[i64]) -> Asked {
     let PairArgument::Is(pair) = pair_at(words, 1, 2) else {
         return Asked::Unreadable;
     };
     let UnsignedArgument::Is(mode) = unsigned_at(words, 3) else {
         return Asked::Unreadable;
     };
-    tile_answer(answer, 4, conversions::from_doubled_coordinates(pair, mode))
+    tile_answer(4, conversions::from_doubled_coordinates(pair, mode))
 }
 
 // 6 x y direction | 0 x y
-fn neighbor(words: &[i64], answer: &mut [i64]) -> Asked {
+fn neighbor(words: &[i64]) -> Asked {
     let TileArgument::Is(tile) = tile_at(words, 1, 2) else {
         return Asked::Unreadable;
     };
@@ -118,20 +119,20 @@ fn neighbor(words: &[i64], answer: &mut [i64]) -> Asked {
         return Asked::Unreadable;
     };
     let place = hex::neighbor(tile, Direction(direction));
-    three(answer, 4, 0, place.x, place.y)
+    three(4, 0, place.x, place.y)
 }
 
 // 7 direction | direction
-fn opposite(words: &[i64], answer: &mut [i64]) -> Asked {
+fn opposite(words: &[i64]) -> Asked {
     let UnsignedArgument::Is(direction) = unsigned_at(words, 1) else {
         return Asked::Unreadable;
     };
     let back = hex::opposite(Direction(direction));
-    one(answer, 2, back.0 as i64)
+    one(2, back.0 as i64)
 }
 
 // 8 direction by | direction
-fn turned(words: &[i64], answer: &mut [i64]) -> Asked {
+fn turned(words: &[i64]) -> Asked {
     let UnsignedArgument::Is(direction) = unsigned_at(words, 1) else {
         return Asked::Unreadable;
     };
@@ -139,22 +140,22 @@ fn turned(words: &[i64], answer: &mut [i64]) -> Asked {
         return Asked::Unreadable;
     };
     let towards = hex::turned(Direction(direction), by);
-    one(answer, 3, towards.0 as i64)
+    one(3, towards.0 as i64)
 }
 
 // A pair of a grid, or a refusal, as numbers.
-fn grid_answer(answer: &mut [i64], took: usize, told: GridAnswer) -> Asked {
+fn grid_answer(took: usize, told: GridAnswer) -> Asked {
     match told {
-        GridAnswer::Found(pair) => three(answer, took, 0, wide(pair.column), wide(pair.row)),
-        GridAnswer::Refused(number) => three(answer, took, number as i64, 0, 0),
+        GridAnswer::Found(pair) => three(took, 0, wide(pair.column), wide(pair.row)),
+        GridAnswer::Refused(number) => three(took, number as i64, 0, 0),
     }
 }
 
 // A tile, or a refusal, as numbers.
-fn tile_answer(answer: &mut [i64], took: usize, told: TileAnswer) -> Asked {
+fn tile_answer(took: usize, told: TileAnswer) -> Asked {
     match told {
-        TileAnswer::Found(tile) => three(answer, took, 0, wide(tile.x), wide(tile.y)),
-        TileAnswer::Refused(number) => three(answer, took, number as i64, 0, 0),
+        TileAnswer::Found(tile) => three(took, 0, wide(tile.x), wide(tile.y)),
+        TileAnswer::Refused(number) => three(took, number as i64, 0, 0),
     }
 }
 
@@ -172,22 +173,24 @@ fn whole(distance: u64) -> i64 {
     }
 }
 
-// Lays out an answer of one number.
-fn one(answer: &mut [i64], took: usize, first: i64) -> Asked {
-    if answer.len() < 1 {
-        return Asked::Unreadable;
-    }
-    answer[0] = first;
-    Asked::Answered(Extent { took, wrote: 1 })
+// An answer of one number.
+fn one(took: usize, first: i64) -> Asked {
+    Asked::Answered(Answer {
+        took,
+        length: 1,
+        first,
+        second: 0,
+        third: 0,
+    })
 }
 
-// Lays out an answer of three numbers.
-fn three(answer: &mut [i64], took: usize, first: i64, second: i64, third: i64) -> Asked {
-    if answer.len() < 3 {
-        return Asked::Unreadable;
-    }
-    answer[0] = first;
-    answer[1] = second;
-    answer[2] = third;
-    Asked::Answered(Extent { took, wrote: 3 })
+// An answer of three numbers.
+fn three(took: usize, first: i64, second: i64, third: i64) -> Asked {
+    Asked::Answered(Answer {
+        took,
+        length: 3,
+        first,
+        second,
+        third,
+    })
 }

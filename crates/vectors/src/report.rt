@@ -1,123 +1,112 @@
-// The counts of a run, and all that it prints.
+// The counts of a run, and the report that it prints.
 
-use crate::verdict::Verdict;
+use crate::answer;
+use crate::question::KINDS;
 use libc::STDOUT_FILENO;
 
+// Where the lines that have ended are counted. All counts stand in one array, so that one thing is lent from function to function.
+const LINES: usize = 0;
+
+// Where the lines that were told one by one are counted.
+const TOLD: usize = 1;
+
+// Where the lines that could not be read are counted.
+const UNREADABLE: usize = 2;
+
+// Where the counts by kind begin. Each kind has two places: how many of its vectors were run, and how many of those differ.
+const KIND_ZERO: usize = 3;
+
+// How many counts there are.
+pub(crate) const COUNTS: usize = KIND_ZERO + 2 * KINDS as usize;
+
 // How many lines are told one by one: a run that fails everywhere must not bury its totals.
-const TOLD: u64 = 10;
-
-// What is counted besides the vectors by kind: the lines that have ended, those told so far, and those that could not be read.
-pub(crate) struct Tally {
-    line: u64,
-    told: u64,
-    unreadable: u64,
-}
-
-// Nothing counted yet.
-pub(crate) fn nothing() -> Tally {
-    Tally {
-        line: 0,
-        told: 0,
-        unreadable: 0,
-    }
-}
+const TELLS: u64 = 10;
 
 // Counts a line, whatever it holds.
-pub(crate) fn next_line(tally: Tally) -> Tally {
-    Tally {
-        line: one_more(tally.line),
-        told: tally.told,
-        unreadable: tally.unreadable,
-    }
+pub(crate) fn next_line(counts: &mut [u64]) {
+    raise(counts, LINES);
 }
 
-// Counts what the line's vector showed, and tells what is wrong with it.
-pub(crate) fn noted(
-    tally: Tally,
-    verdict: Verdict,
-    ran: &mut [u64],
-    differing: &mut [u64],
-) -> Tally {
-    match verdict {
-        Verdict::Agrees(kind) => {
-            raise(ran, kind);
-            tally
-        }
-        Verdict::Differs(kind) => {
-            raise(ran, kind);
-            raise(differing, kind);
-            told(tally, b" differs\n")
-        }
-        Verdict::Unreadable => unreadable(tally),
+// Counts a vector whose answer is the one expected.
+pub(crate) fn agrees(counts: &mut [u64], kind: u32) {
+    raise(counts, ran(kind));
+}
+
+// Counts a vector whose answer is another one, and tells that answer, which is the first `length` of the numbers.
+pub(crate) fn differs(counts: &mut [u64], kind: u32, numbers: &[i64], length: usize) {
+    raise(counts, ran(kind));
+    raise(counts, differed(kind));
+    if tells(counts, b" differs:") {
+        answer::print(numbers, length);
     }
 }
 
 // Counts a line that could not be read.
-pub(crate) fn unreadable(tally: Tally) -> Tally {
-    let told = told(tally, b" unreadable\n");
-    Tally {
-        line: told.line,
-        told: told.told,
-        unreadable: one_more(told.unreadable),
-    }
+pub(crate) fn unreadable(counts: &mut [u64]) {
+    raise(counts, UNREADABLE);
+    tells(counts, b" unreadable\n");
 }
 
 // Prints a line for each kind that occurred, in rising order, and the count of what could not be read.
-pub(crate) fn print(tally: Tally, ran: &[u64], differing: &[u64]) {
-    let mut kind: usize = 0;
-    while kind < ran.len() {
-        if kind < differing.len() {
-            print_kind(kind as u64, ran[kind], differing[kind]);
-        }
+pub(crate) fn print(counts: &[u64]) {
+    let mut kind: u32 = 0;
+    while kind < KINDS {
+        print_kind(kind, counts);
         kind += 1;
     }
-    io::print_decimal(STDOUT_FILENO, tally.unreadable);
+    io::print_decimal(STDOUT_FILENO, count(counts, UNREADABLE));
     io::write_all(STDOUT_FILENO, b" unreadable\n");
 }
 
 // One kind's line, where the kind occurred.
-fn print_kind(kind: u64, ran: u64, differing: u64) {
-    if ran == 0 {
+fn print_kind(kind: u32, counts: &[u64]) {
+    let run = count(counts, ran(kind));
+    if run == 0 {
         return;
     }
-    io::write_all(STDOUT_FILENO, b"kind ");
-    io::print_decimal(STDOUT_FILENO, kind);
-    io::write_all(STDOUT_FILENO, b": ");
-    io::print_decimal(STDOUT_FILENO, ran);
-    io::write_all(STDOUT_FILENO, b" run, ");
-    io::print_decimal(STDOUT_FILENO, differing);
+    labelled(b"kind ", kind as u64);
+    labelled(b": ", run);
+    labelled(b" run, ", count(counts, differed(kind)));
     io::write_all(STDOUT_FILENO, b" differ\n");
 }
 
-// Tells what is wrong with the line, unless enough lines were told.
-fn told(tally: Tally, what: &[u8]) -> Tally {
-    if tally.told >= TOLD {
-        return tally;
+// Tells what is wrong with the line, unless enough lines were told, and says whether it did.
+fn tells(counts: &mut [u64], what: &[u8]) -> bool {
+    if count(counts, TOLD) >= TELLS {
+        return false;
     }
-    io::write_all(STDOUT_FILENO, b"line ");
-    io::print_decimal(STDOUT_FILENO, tally.line);
-    io::write_all(STDOUT_FILENO, what);
-    Tally {
-        line: tally.line,
-        told: one_more(tally.told),
-        unreadable: tally.unreadable,
-    }
+    raise(counts, TOLD);
+    labelled(b"line ", count(counts, LINES));
+    io::write_all(STDOUT_FILENO, what)
 }
 
-// Raises a kind's count.
-fn raise(counts: &mut [u64], kind: u32) {
-    let at = kind as usize;
+// Prints a number after what it is.
+fn labelled(label: &[u8], number: u64) {
+    io::write_all(STDOUT_FILENO, label);
+    io::print_decimal(STDOUT_FILENO, number);
+}
+
+// Where the vectors of a kind that were run are counted. Of a kind past the last this lies past the array, where nothing is counted.
+fn ran(kind: u32) -> usize {
+    KIND_ZERO + 2 * kind as usize
+}
+
+// Where the vectors of a kind that differ are counted.
+fn differed(kind: u32) -> usize {
+    KIND_ZERO + 2 * kind as usize + 1
+}
+
+// The count at a place, and 0 at a place that the array lacks.
+fn count(counts: &[u64], at: usize) -> u64 {
+    if at < counts.len() { counts[at] } else { 0 }
+}
+
+// Raises the count at a place. It stays at the largest number, since a count must not begin anew.
+fn raise(counts: &mut [u64], at: usize) {
     if at < counts.len() {
         let count = counts[at];
-        counts[at] = one_more(count);
-    }
-}
-
-// One more, or the same at the largest number, since a count must not begin anew.
-fn one_more(count: u64) -> u64 {
-    if count < 18446744073709551615 {
-        count + 1
-    } else {
-        count
+        if count < 18446744073709551615 {
+            counts[at] = count + 1;
+        }
     }
 }

@@ -7,11 +7,10 @@ use Rattle.vectors.proofs.bytes.Statement.{statement}
 use Rattle.vectors.proofs.bytes.Tie as tie
 
 abbrev Inv-loop : tie.InvT-loop
-Inv-loop s words₀ answer₀ ran₀ differing₀ progress₀ i₀ words answer ran differing progress i =
-    (i ≤ length s) × (length words ≡ length words₀) × (length answer ≡ length answer₀) × (length ran ≡ length ran₀) × (length differing ≡ length differing₀)
+Inv-loop s words₀ counts₀ reading₀ i₀ words counts reading i = (i ≤ length s) × (length words ≡ length words₀) × (length counts ≡ length counts₀)
 
 abbrev μ-loop : tie.MeasureT-loop
-μ-loop s words₀ answer₀ ran₀ differing₀ progress₀ i₀ words answer ran differing progress i = length s - i
+μ-loop s words₀ counts₀ reading₀ i₀ words counts reading i = length s - i
 
 loop-holds : tie.Need-loop-holds Inv-loop μ-loop
 loop-holds c = search needs
@@ -37,12 +36,6 @@ same-length c = search needs
 same-length-2 : tie.Need-same-length-2 Inv-loop μ-loop
 same-length-2 c = search needs
 
-same-length-3 : tie.Need-same-length-3 Inv-loop μ-loop
-same-length-3 c = search needs
-
-same-length-4 : tie.Need-same-length-4 Inv-loop μ-loop
-same-length-4 c = search needs
-
 returns : tie.Need-returns Inv-loop μ-loop
 returns c = search needs
 
@@ -60,6 +53,4 @@ bytes-spec =
     loop-again
     same-length
     same-length-2
-    same-length-3
-    same-length-4
     returns)

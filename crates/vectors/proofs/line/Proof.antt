@@ -26,32 +26,32 @@ enum-known-count c = search needs
 unreadable-requires-2 : tie.Need-unreadable-requires-2
 unreadable-requires-2 c κs = search needs
 
+same-length : tie.Need-same-length
+same-length c = search needs
+
 returns : tie.Need-returns
 returns c = search needs
 
-slice-aggregate-judged : tie.Need-slice-aggregate-judged
-slice-aggregate-judged c = simp length-take (omega arith)
+slice-aggregate-vector : tie.Need-slice-aggregate-vector
+slice-aggregate-vector c = simp length-take (omega arith)
 
-judged-requires : tie.Need-judged-requires
-judged-requires c κs = search needs
-
-noted-requires : tie.Need-noted-requires
-noted-requires c κs = search needs
-
-returns-2 : tie.Need-returns-2
-returns-2 c = search needs
-
-returns-3 : tie.Need-returns-3
-returns-3 c = search needs
-
-same-length : tie.Need-same-length
-same-length c = search needs
+vector-requires : tie.Need-vector-requires
+vector-requires c κs = search needs
 
 same-length-2 : tie.Need-same-length-2
 same-length-2 c = search needs
 
+returns-2 : tie.Need-returns-2
+returns-2 c = search needs
+
 same-length-3 : tie.Need-same-length-3
 same-length-3 c = search needs
+
+returns-3 : tie.Need-returns-3
+returns-3 c = search needs
+
+same-length-4 : tie.Need-same-length-4
+same-length-4 c = search needs
 
 returns-4 : tie.Need-returns-4
 returns-4 c = search needs
@@ -67,13 +67,13 @@ line-spec =
     unreadable-requires
     enum-known-count
     unreadable-requires-2
-    returns
-    slice-aggregate-judged
-    judged-requires
-    noted-requires
-    returns-2
-    returns-3
     same-length
+    returns
+    slice-aggregate-vector
+    vector-requires
     same-length-2
+    returns-2
     same-length-3
+    returns-3
+    same-length-4
     returns-4)

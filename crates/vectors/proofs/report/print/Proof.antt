@@ -1,30 +1,17 @@
--- `print` is safe and ends: the kinds run up to the length of the counts.
+-- `print` is safe and ends: the kinds run up to the last.
 use Prim.Native.Nat.{_≤_, _-_}
-use lib.ListN.{length}
 use borrow.Author.Needs.{needs}
 use Rattle.vectors.proofs.report.print.Statement.{statement}
 use Rattle.vectors.proofs.report.print.Tie as tie
 
 abbrev Inv-loop : tie.InvT-loop
-Inv-loop tally ran differing kind₀ t5 kind = kind ≤ length ran
+Inv-loop counts kind₀ t3 kind = kind ≤ 64
 
 abbrev μ-loop : tie.MeasureT-loop
-μ-loop tally ran differing kind₀ t5 kind = length ran - kind
+μ-loop counts kind₀ t3 kind = 64 - kind
 
 loop-holds : tie.Need-loop-holds Inv-loop μ-loop
 loop-holds c = search needs
-
-mul-print-kind : tie.Need-mul-print-kind Inv-loop μ-loop
-mul-print-kind c = search needs
-
-shared-slice-read-print-kind : tie.Need-shared-slice-read-print-kind Inv-loop μ-loop
-shared-slice-read-print-kind c = search needs
-
-mul-print-kind-2 : tie.Need-mul-print-kind-2 Inv-loop μ-loop
-mul-print-kind-2 c = search needs
-
-shared-slice-read-print-kind-2 : tie.Need-shared-slice-read-print-kind-2 Inv-loop μ-loop
-shared-slice-read-print-kind-2 c = search needs
 
 print-kind-requires : tie.Need-print-kind-requires Inv-loop μ-loop
 print-kind-requires c κs = search needs
@@ -37,6 +24,9 @@ loop-less c = search needs
 
 loop-again : tie.Need-loop-again Inv-loop μ-loop
 loop-again c = search needs
+
+count-requires : tie.Need-count-requires Inv-loop μ-loop
+count-requires c κs = search needs
 
 print-decimal-requires : tie.Need-print-decimal-requires Inv-loop μ-loop
 print-decimal-requires c κs = search needs
@@ -57,14 +47,11 @@ print-spec =
     Inv-loop
     μ-loop
     loop-holds
-    mul-print-kind
-    shared-slice-read-print-kind
-    mul-print-kind-2
-    shared-slice-read-print-kind-2
     print-kind-requires
     add-kind
     loop-less
     loop-again
+    count-requires
     print-decimal-requires
     slice-aggregate-write-all
     write-all-requires

@@ -1,36 +1,40 @@
--- `same` is safe and ends: the index runs up to the number of expected numbers, which the answer has.
+-- `same` is safe and ends: the index runs up to the length, which both have.
 use Prim.Native.Nat.{_≤_, _-_}
+use mathlib.Core.Path.{_≡_}
 use lib.ListN.{length}
 use borrow.Author.Needs.{needs}
 use Rattle.vectors.proofs.verdict.same.Statement.{statement}
 use Rattle.vectors.proofs.verdict.same.Tie as tie
 
 abbrev Inv-loop : tie.InvT-loop
-Inv-loop expected answer i₀ i = (i ≤ length expected) × (length expected ≤ length answer)
+Inv-loop expected n numbers i₀ i = (i ≤ n) × (n ≡ length expected) × (n ≤ length numbers)
 
 abbrev μ-loop : tie.MeasureT-loop
-μ-loop expected answer i₀ i = length expected - i
+μ-loop expected n numbers i₀ i = n - i
 
 returns : tie.Need-returns Inv-loop μ-loop
 returns c = search needs
 
+returns-2 : tie.Need-returns-2 Inv-loop μ-loop
+returns-2 c = search needs
+
 loop-holds : tie.Need-loop-holds Inv-loop μ-loop
 loop-holds c = search needs
 
-mul-if2 : tie.Need-mul-if2 Inv-loop μ-loop
-mul-if2 c = search needs
+mul-if3 : tie.Need-mul-if3 Inv-loop μ-loop
+mul-if3 c = search needs
 
-shared-slice-copy-out-if2 : tie.Need-shared-slice-copy-out-if2 Inv-loop μ-loop
-shared-slice-copy-out-if2 c = search needs
+shared-slice-copy-out-if3 : tie.Need-shared-slice-copy-out-if3 Inv-loop μ-loop
+shared-slice-copy-out-if3 c = search needs
 
-mul-if2-2 : tie.Need-mul-if2-2 Inv-loop μ-loop
-mul-if2-2 c = search needs
+mul-if3-2 : tie.Need-mul-if3-2 Inv-loop μ-loop
+mul-if3-2 c = search needs
 
-shared-slice-copy-out-if2-2 : tie.Need-shared-slice-copy-out-if2-2 Inv-loop μ-loop
-shared-slice-copy-out-if2-2 c = search needs
+shared-slice-copy-out-if3-2 : tie.Need-shared-slice-copy-out-if3-2 Inv-loop μ-loop
+shared-slice-copy-out-if3-2 c = search needs
 
-returns-2 : tie.Need-returns-2 Inv-loop μ-loop
-returns-2 c = search needs
+returns-3 : tie.Need-returns-3 Inv-loop μ-loop
+returns-3 c = search needs
 
 add-i : tie.Need-add-i Inv-loop μ-loop
 add-i c = search needs
@@ -41,8 +45,8 @@ loop-less c = search needs
 loop-again : tie.Need-loop-again Inv-loop μ-loop
 loop-again c = search needs
 
-returns-3 : tie.Need-returns-3 Inv-loop μ-loop
-returns-3 c = search needs
+returns-4 : tie.Need-returns-4 Inv-loop μ-loop
+returns-4 c = search needs
 
 pub same-spec : {M : Type 1} → statement M
 same-spec =
@@ -51,13 +55,14 @@ same-spec =
     Inv-loop
     μ-loop
     returns
-    loop-holds
-    mul-if2
-    shared-slice-copy-out-if2
-    mul-if2-2
-    shared-slice-copy-out-if2-2
     returns-2
+    loop-holds
+    mul-if3
+    shared-slice-copy-out-if3
+    mul-if3-2
+    shared-slice-copy-out-if3-2
+    returns-3
     add-i
     loop-less
     loop-again
-    returns-3)
+    returns-4)

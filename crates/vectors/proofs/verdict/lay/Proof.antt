@@ -1,9 +1,9 @@
--- `three` is safe: a store keeps the length of the answer.
+-- `lay` is safe: a store keeps the length of the numbers.
 use native.Mathlib.Omega.{arith}
 use lib.ListN.{length-set}
 use borrow.Author.Needs.{needs}
-use Rattle.vectors.proofs.question.three.Statement.{statement}
-use Rattle.vectors.proofs.question.three.Tie as tie
+use Rattle.vectors.proofs.verdict.lay.Statement.{statement}
+use Rattle.vectors.proofs.verdict.lay.Tie as tie
 
 returns : tie.Need-returns
 returns c = search needs
@@ -23,8 +23,8 @@ same-length c = search needs
 returns-2 : tie.Need-returns-2
 returns-2 c = search needs
 
-pub three-spec : {M : Type 1} → statement M
-three-spec =
+pub lay-spec : {M : Type 1} → statement M
+lay-spec =
     tie.close
     (tie.spec
     returns
