@@ -77,6 +77,14 @@ step-long d =
     ∙ ap (λ (l : List ℕ). getD l (d % 6) (span (pos 0) (pos 0))) tested
     ∙ getD-replicate 6 (d % 6) 1 (span (pos 0) (pos 0)) (omega arith)
 
+-- So no coordinate of a step is larger than 1.
+largest-one : (a b c : ℕ) → max (max a b) c ≡ 1 → (a ≤ 1) × (b ≤ 1)
+largest-one a b c e = omega arith
+
+pub step-small : (d : ℕ) → (natAbs (stepOf d .0) ≤ 1) × (natAbs (stepOf d .1) ≤ 1)
+unfolding long span
+step-small d = largest-one _ _ _ (step-long d)
+
 stepped : (x s : ℤ) → x +ℤ s -ℤ x ≡ s
 stepped = by2 _ (simp dif (omega arith))
 
