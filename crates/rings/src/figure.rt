@@ -48,7 +48,8 @@ fn ring_leg(range: u32, i: u32) -> u32
     if i == 0 { 1 } else { 0 }
 }
 
-// Leg i of a figure at a range.
+// Leg i of a figure at a range. A ring passes its corners one direction on with each leg, or one back in sense 1, where five more is one less; an edge in sense 1 starts from its
+// vertex's other corner; a corner's two legs leave it in both senses.
 pub(crate) fn leg_at(figure: Figure, range: u32, i: u32) -> Leg
     requires { ⌜ figure .direction ≤ 5 ⌝ }
     requires { ⌜ figure .sense ≤ 1 ⌝ }
