@@ -3,12 +3,15 @@
 //! own, which is named here and asked from the function of its sheet; a new
 //! sheet is added to `write_all`.
 
+mod counts;
 mod directions;
 mod distance;
 mod doubled;
+mod excerpt;
 mod generator;
 mod mapping;
 mod offset;
+mod rings;
 mod samples;
 mod sheet;
 
@@ -35,6 +38,18 @@ fn module12() -> Sheet {
     sheet
 }
 
+/// The questions about lists and their counts, where the paper accepts.
+fn module3() -> Sheet {
+    let mut sheet = Sheet::new(
+        "Answers of the crate hexx 0.25.0 on rings, ring edges, wedges, corner wedges and spirals.\n\
+         A list is asked with a run of `room` entries, each -7 before the call; what the list\n\
+         does not fill stays -7. A run of more than 400 entries is written as its digest.",
+    );
+    rings::ask(&mut sheet);
+    counts::ask(&mut sheet);
+    sheet
+}
+
 /// The questions on which the paper decides against the crate.
 fn differences() -> Sheet {
     let mut sheet = Sheet::new(
@@ -45,13 +60,19 @@ fn differences() -> Sheet {
     distance::differences(&mut sheet);
     offset::differences(&mut sheet);
     doubled::differences(&mut sheet);
+    rings::differences(&mut sheet);
+    counts::differences(&mut sheet);
     sheet
 }
 
 /// Writes each sheet to its file and says how many lines of each kind it has.
 fn write_all(folder: &Path) {
+    let module3 = module3();
+    let sample3 = excerpt::of_lists(&module3);
     for (name, sheet) in [
         ("module12.txt", module12()),
+        ("module3.txt", module3),
+        ("sample3.txt", sample3),
         ("differences.txt", differences()),
     ] {
         if let Err(cause) = std::fs::write(folder.join(name), sheet.text()) {

@@ -12,6 +12,13 @@ pub const FROM_DOUBLED: i64 = 5;
 pub const NEIGHBOR: i64 = 6;
 pub const OPPOSITE: i64 = 7;
 pub const TURNED: i64 = 8;
+pub const RING: i64 = 10;
+pub const RING_EDGE: i64 = 11;
+pub const WEDGE: i64 = 12;
+pub const CORNER_WEDGE: i64 = 13;
+pub const SPIRAL: i64 = 14;
+pub const RING_COUNT: i64 = 15;
+pub const WEDGE_COUNT: i64 = 16;
 
 /// The refusal number of an accepted question.
 pub const ACCEPTED: i64 = 0;

@@ -4,6 +4,8 @@
 
 mod answer;
 mod arguments;
+mod digest;
+mod lists;
 mod question;
 mod report;
 mod verdict;

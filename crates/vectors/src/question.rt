@@ -39,6 +39,8 @@ pub(crate) fn answered(kind: u32, words: &[i64]) -> Asked {
         6 => neighbor(words),
         7 => opposite(words),
         8 => turned(words),
+        15 => ring_count(words),
+        16 => wedge_count(words),
         _ => Asked::Unreadable,
     }
 }
@@ -143,6 +145,33 @@ fn turned(words: &[i64]) -> Asked {
     one(3, towards.0 as i64)
 }
 
+// 15 range | milliards rest
+fn ring_count(words: &[i64]) -> Asked {
+    let UnsignedArgument::Is(range) = unsigned_at(words, 1) else {
+        return Asked::Unreadable;
+    };
+    count(rings::ring_count(range))
+}
+
+// 16 range | milliards rest
+fn wedge_count(words: &[i64]) -> Asked {
+    let UnsignedArgument::Is(range) = unsigned_at(words, 1) else {
+        return Asked::Unreadable;
+    };
+    count(rings::wedge_count(range))
+}
+
+// A count of a range as two numbers, its milliards and the rest, since one word does not hold every count.
+fn count(told: u64) -> Asked {
+    Asked::Answered(Answer {
+        took: 2,
+        length: 2,
+        first: whole(told / 1000000000),
+        second: whole(told % 1000000000),
+        third: 0,
+    })
+}
+
 // A pair of a grid, or a refusal, as numbers.
 fn grid_answer(took: usize, told: GridAnswer) -> Asked {
     match told {
@@ -159,15 +188,15 @@ fn tile_answer(took: usize, told: TileAnswer) -> Asked {
     }
 }
 
-// A coordinate as a word.
-fn wide(coordinate: i32) -> i64 {
+// A coordinate, or an entry of a run, as a word.
+pub(crate) fn wide(coordinate: i32) -> i64 {
     coordinate as i64
 }
 
-// A distance as a word. No distance is negative, so one that no word holds becomes -1, which no vector expects.
-fn whole(distance: u64) -> i64 {
-    if distance < 9223372036854775808 {
-        distance as i64
+// A number that is never negative as a word. One that no word holds becomes -1, which no vector expects.
+pub(crate) fn whole(number: u64) -> i64 {
+    if number < 9223372036854775808 {
+        number as i64
     } else {
         -1
     }

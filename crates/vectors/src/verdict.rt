@@ -1,8 +1,10 @@
 // One vector against the crates: its question is asked, and the answer is compared with the one that the line expects.
 
+use crate::answer::Laid;
+use crate::answer::put;
 use crate::arguments::UnsignedArgument;
 use crate::arguments::unsigned_at;
-use crate::question::Answer;
+use crate::lists;
 use crate::question::Asked;
 use crate::question::answered;
 
@@ -18,24 +20,29 @@ pub(crate) fn judged(words: &[i64], numbers: &mut [i64]) -> Verdict {
     let UnsignedArgument::Is(kind) = unsigned_at(words, 0) else {
         return Verdict::Unreadable;
     };
-    let Asked::Answered(answer) = answered(kind, words) else {
+    let Laid::Numbers(took, length) = laid(kind, words, numbers) else {
         return Verdict::Unreadable;
     };
-    lay(answer, numbers);
-    compared(kind, answer.length, words, answer.took, numbers)
+    compared(kind, length, words, took, numbers)
+}
+
+// Asks the question, and lays out its answer: a list, or at most three numbers.
+fn laid(kind: u32, words: &[i64], numbers: &mut [i64]) -> Laid {
+    match kind {
+        10..=14 => lists::answered(kind, words, numbers),
+        _ => lay(answered(kind, words), numbers),
+    }
 }
 
 // Lays out an answer: as many of the three numbers as it has are its own.
-fn lay(answer: Answer, numbers: &mut [i64]) {
-    if numbers.len() < 3 {
-        return;
-    }
-    let first = answer.first;
-    let second = answer.second;
-    let third = answer.third;
-    numbers[0] = first;
-    numbers[1] = second;
-    numbers[2] = third;
+fn lay(asked: Asked, numbers: &mut [i64]) -> Laid {
+    let Asked::Answered(answer) = asked else {
+        return Laid::Unreadable;
+    };
+    put(numbers, 0, answer.first);
+    put(numbers, 1, answer.second);
+    put(numbers, 2, answer.third);
+    Laid::Numbers(answer.took, answer.length)
 }
 
 // The words after the question are the expected answer; one with more or fewer numbers differs.

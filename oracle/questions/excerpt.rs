@@ -1,0 +1,42 @@
+//! A part of a sheet that is small enough to be kept beside the code.
+
+use crate::rings::SHOWN;
+use crate::sheet::{RING_COUNT, Sheet};
+
+/// Of the lines that no rule names, each one after this many is kept. It is no
+/// multiple of 2 or 3, so that every direction and sense is met.
+const STRIDE: usize = 17;
+
+/// Says whether a rule names the line: it has small ranges, or a digest, or the
+/// count of a range beyond those that are asked one by one.
+fn named(words: &[i64]) -> bool {
+    if words[0] >= RING_COUNT {
+        return words[1] <= 3 || words[1] > 60;
+    }
+    let small = words[3] <= 3 && words[4] <= 3;
+    small || words[7] > SHOWN as i64
+}
+
+/// The lines of the sheet of lists and counts that are kept, with all its comments.
+pub fn of_lists(lists: &Sheet) -> Sheet {
+    let mut sheet = Sheet::new("A part of the answers on lists, chosen by fixed rules.");
+    let mut passed = 0;
+    for line in lists.text().lines() {
+        if let Some(comment) = line.strip_prefix("# ") {
+            sheet.comment(comment);
+            continue;
+        }
+        let words: Vec<i64> = line
+            .split(' ')
+            .filter_map(|word| word.parse().ok())
+            .collect();
+        if !named(&words) {
+            passed += 1;
+            if passed % STRIDE != 0 {
+                continue;
+            }
+        }
+        sheet.line(&words);
+    }
+    sheet
+}
