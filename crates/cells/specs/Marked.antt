@@ -13,6 +13,9 @@ use Rattle.conversions.specs.Doubled.{toDoubled, FromDoubled}
 use Rattle.conversions.specs.declared.GridPair.{GridPair}
 use Rattle.rings.specs.Counts.{wedgeCount}
 use Rattle.rings.specs.Rings.{ring, edge, cornerWedge}
+use Rattle.storage.specs.Hexagonal.{rowColumn, toRowColumn, FromRowColumn}
+use Rattle.storage.specs.Hexmod.{index, toHexmod, FromHexmod}
+use Rattle.storage.specs.declared.Map.{Map}
 
 -- What is asked, and then what is told.
 pub data Cell : Type 0 where
@@ -23,6 +26,8 @@ pub data Cell : Type 0 where
   edge-of : Tile → ℕ → ℕ → ℕ → List Tile → Cell
   corner-wedge-of : Tile → ℕ → ℕ → ℕ → List Tile → Cell
   wedge-count-of : ℕ → ℕ → Cell
+  indexed : Map → ℕ → Tile → Cell
+  in-row : Map → ℕ → ℕ → Tile → Cell
 
 -- A cell holds if the definition tells what it says.
 abbrev pub Holds : Cell → Type 0
@@ -33,6 +38,12 @@ Holds (ring-of centre range direction sense tiles) = ring centre direction sense
 Holds (edge-of centre range vertex sense tiles) = edge centre vertex sense range ≡ tiles
 Holds (corner-wedge-of centre first last direction tiles) = cornerWedge centre first last direction ≡ tiles
 Holds (wedge-count-of n count) = wedgeCount n ≡ count
+Holds (indexed map i t) = (toHexmod map t ≡ accepted (index i)) × FromHexmod map (index i) (accepted t)
+Holds (in-row map row column t) = (toRowColumn map t ≡ accepted (rowColumn row column)) × FromRowColumn map (rowColumn row column) (accepted t)
+
+-- A map round (0, 0).
+abbrev pub disc : ℕ → Map
+disc r = record { centre = tile (pos 0) (pos 0); radius = r }
 
 -- `negsuc 0` is -1, `negsuc 1` is -2 and `negsuc 2` is -3. Mode Even is 0 and Odd 1, orientation Flat 0; mode DoubledWidth is 0 and DoubledHeight 1.
 abbrev pub marked : List Cell
@@ -50,6 +61,17 @@ marked =
     ∷ wedge-count-of 13 105
     ∷ wedge-count-of 65535 2147516416
     ∷ wedge-count-of 4294967295 9223372039002259456
+    -- M7: the indices 0 to 6 of radius 1, there and back.
+    ∷ indexed (disc 1) 0 (tile (pos 0) (pos 0))
+    ∷ indexed (disc 1) 1 (tile (pos 0) (pos 1))
+    ∷ indexed (disc 1) 2 (tile (negsuc 0) (pos 0))
+    ∷ indexed (disc 1) 3 (tile (negsuc 0) (pos 1))
+    ∷ indexed (disc 1) 4 (tile (pos 1) (negsuc 0))
+    ∷ indexed (disc 1) 5 (tile (pos 1) (pos 0))
+    ∷ indexed (disc 1) 6 (tile (pos 0) (negsuc 0))
+    -- M8: of radius 2, (-2, 2) is 5 and 14 is (2, -2).
+    ∷ indexed (disc 2) 5 (tile (negsuc 1) (pos 2))
+    ∷ indexed (disc 2) 14 (tile (pos 2) (negsuc 1))
     -- M9: (-3, 4) is (-3, 2) in flat odd and (-3, 3) in flat even.
     ∷ offset (tile (negsuc 2) (pos 4)) 1 0 (accepted (pair (negsuc 2) (pos 2)))
     ∷ offset (tile (negsuc 2) (pos 4)) 0 0 (accepted (pair (negsuc 2) (pos 3)))
@@ -57,6 +79,9 @@ marked =
     ∷ doubled (tile (negsuc 2) (pos 4)) 0 (accepted (pair (negsuc 1) (pos 4)))
     ∷ doubled (tile (negsuc 2) (pos 4)) 1 (accepted (pair (negsuc 2) (pos 5)))
     ∷ from-doubled (pair (pos 1) (pos 0)) 0 (refusedTile 4)
+    -- M11: of radius 1, (0, -1) is row 0, column 0 and (0, 1) row 2, column 1, there and back.
+    ∷ in-row (disc 1) 0 0 (tile (pos 0) (negsuc 0))
+    ∷ in-row (disc 1) 2 1 (tile (pos 0) (pos 1))
     ∷ []
 
 -- The statement: every cell of a table holds.

@@ -1,0 +1,9 @@
+-- What the proofs of this crate share, the facts beside its promises, and its uniqueness.
+pub mod Maps
+pub mod Strips
+pub mod Back
+pub mod Ending
+pub mod Formula
+pub mod RoundTrip
+pub mod Rows
+pub mod Unique
