@@ -2,7 +2,7 @@
 use mathlib.Core.Path.{_≡_, refl, sym, ap, subst, _∙_}
 use mathlib.Core.Bool.{Bool, true, false, _&&_}
 use Prim.Native.Nat.{ℕ}
-use Rattle.hex.specs.Answers.{Told, origin, tileAnswer, TileTells}
+use Rattle.hex.specs.Answers.{Told, TileTells}
 use Rattle.hex.specs.declared.Tile.{Tile}
 use Rattle.hex.specs.declared.TileAnswer.{TileAnswer}
 use Rattle.hex.proofs.Tells.{tells-more}

@@ -1,7 +1,7 @@
 -- A pointy grid mirrors a flat one, and doubled height mirrors doubled width: the two coordinates are exchanged on both sides. What is told of one grid is told, exchanged, of its mirror.
 use mathlib.Core.Path.{_≡_, refl, sym, ap, subst, _∙_}
 use mathlib.Core.Bool.{Bool, true, false, cond, _&&_}
-use Prim.Native.Nat.{ℕ, _<_}
+use Prim.Native.Nat.{ℕ}
 use lib.Dec.{leb}
 use lib.IntN.{natAbs}
 use Rattle.hex.specs.Answers.{Told, accepted, TileTells}

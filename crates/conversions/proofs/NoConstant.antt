@@ -3,14 +3,14 @@ use mathlib.Core.Path.{_≡_, refl, sym, ap, _∙_}
 use mathlib.Core.Bool.{Bool, true}
 use Prim.Native.Nat.{ℕ}
 use native.Mathlib.Omega.{arith}
-use lib.IntN.{ℤ, pos, natAbs}
+use lib.IntN.{pos, natAbs}
 use Rattle.whole.specs.Euclid.{quotient, remainder}
 use Rattle.hex.specs.Answers.{Told, accepted, origin, tileAnswer, TileTells}
 use Rattle.hex.specs.Tiles.{tile, withinLimit}
 use Rattle.hex.specs.declared.Tile.{Tile}
 use Rattle.hex.specs.declared.TileAnswer.{TileAnswer}
 use Rattle.hex.proofs.Tells.{One, tells-both}
-use Rattle.conversions.specs.Grid.{noPair, gridAnswer, GridTells, known, toGrid, FromGrid}
+use Rattle.conversions.specs.Grid.{noPair, gridAnswer, GridTells, toGrid, FromGrid}
 use Rattle.conversions.specs.Offset.{slantOf, offsetOf, toOffset, FromOffset}
 use Rattle.conversions.specs.Doubled.{doubledOf, toDoubled, FromDoubled}
 use Rattle.conversions.specs.declared.GridAnswer.{GridAnswer}

@@ -6,12 +6,10 @@ use lib.IntN.{ℤ, pos, natAbs, _+ℤ_, _-ℤ_, _*ℤ_}
 use mir.Syntax.{w32, w64}
 use mir.Val.{SFits, toZ, ofZ}
 use mir.Facts.{toZ-ofZ}
-use Rattle.whole.specs.Euclid.{quotient, remainder}
 use Rattle.whole.proofs.Differences.{by1, by2, by3}
 use Rattle.whole.proofs.Kit.{dif, dif-b}
 use Rattle.hex.specs.Limits.{coordinateLimit}
 use Rattle.hex.specs.Tiles.{tile}
-use Rattle.hex.specs.declared.Tile.{Tile}
 use Rattle.conversions.specs.Grid.{pair}
 use Rattle.conversions.specs.Offset.{parity, slantOf, offsetOf}
 use Rattle.conversions.specs.declared.GridPair.{GridPair}

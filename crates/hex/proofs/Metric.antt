@@ -1,7 +1,7 @@
 -- Distance is a distance: it is the same both ways, 0 between a tile and itself alone, and never longer than a way round; a neighbour is at distance 1.
 use mathlib.Core.Path.{_≡_, refl, sym, ap, ap₂, _∙_}
 use mathlib.Core.List.{List, map}
-use Prim.Native.Nat.{ℕ, _+_, _%_, _≤_, _<_, max}
+use Prim.Native.Nat.{ℕ, _+_, _%_, _≤_, max}
 use native.Mathlib.Omega.{arith}
 use lib.IntN.{ℤ, pos, natAbs, _+ℤ_, _-ℤ_}
 use lib.ListN.{getD, replicate, List·getD-map, getD-replicate}

@@ -1,10 +1,10 @@
 -- No one answer serves every input: a call that answers the same always, or refuses always, breaks its promise. Two inputs show it of each call.
 use mathlib.Core.Path.{_≡_, refl, sym, ap, _∙_}
 use mathlib.Core.Bool.{Bool, true, false}
-use Prim.Native.Nat.{ℕ, zero, suc}
+use Prim.Native.Nat.{ℕ}
 use native.Mathlib.Omega.{arith}
 use lib.IntN.{pos, natAbs}
-use Rattle.hex.specs.Answers.{Told, accepted, origin, tileAnswer, TileTells, judgedTile}
+use Rattle.hex.specs.Answers.{Told, origin, tileAnswer, TileTells, judgedTile}
 use Rattle.hex.specs.Directions.{stepOf, turnedBy}
 use Rattle.hex.specs.Tiles.{tile, place, span, neighborOf, distanceOf, withinLimit}
 use Rattle.hex.specs.declared.Direction.{Direction}

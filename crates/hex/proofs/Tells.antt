@@ -1,6 +1,5 @@
 -- Laws of what an answer tells: a weaker rule is told too, and a rule that one thing told at most meets is told by one answer at most.
 use mathlib.Core.Path.{_≡_, refl, sym, ap, _∙_}
-use Prim.Native.Nat.{ℕ, _<_}
 use native.Mathlib.Omega.{arith}
 use Rattle.hex.specs.Answers.{Told, Answer, found, refusal, Tells, origin, tileAnswer, TileTells}
 use Rattle.hex.specs.declared.Tile.{Tile}

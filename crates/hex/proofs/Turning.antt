@@ -3,7 +3,7 @@
 use mathlib.Core.Path.{_≡_, refl, sym, ap, ap₂, _∙_}
 use mathlib.Core.List.{List, [], _∷_, _++_, map}
 use Prim.Native.Nat.{ℕ, suc, _+_, _%_, _<_}
-use native.Mathlib.Nat.{mod-lt, mod-self, mod-eq-of-lt}
+use native.Mathlib.Nat.{mod-self, mod-eq-of-lt}
 use native.Mathlib.Decide.{decLt}
 use native.Mathlib.Numerals.{add-one}
 use native.Mathlib.Omega.{arith}
@@ -13,7 +13,7 @@ use lib.Seq.{getD-append-seam}
 use Rattle.whole.proofs.Differences.{by2}
 use Rattle.whole.proofs.Kit.{dif}
 use Rattle.hex.specs.Directions.{step, steps, stepOf, sixthTurn}
-use Rattle.hex.specs.Tiles.{tile, neighborOf}
+use Rattle.hex.specs.Tiles.{neighborOf}
 use Rattle.hex.specs.declared.Step.{Step}
 use Rattle.hex.specs.declared.Tile.{Tile}
 

@@ -2,7 +2,7 @@
 use mathlib.Core.Path.{_≡_, sym, _∙_}
 use mathlib.Core.Bool.{Bool}
 use Prim.Native.Nat.{ℕ}
-use Rattle.hex.specs.Answers.{Told, TileTells, judgedTile}
+use Rattle.hex.specs.Answers.{TileTells, judgedTile}
 use Rattle.hex.specs.Directions.{stepOf, turnedBy}
 use Rattle.hex.specs.Tiles.{place, neighborOf, distanceOf, withinLimit}
 use Rattle.hex.specs.declared.Direction.{Direction}

@@ -2,7 +2,7 @@
 use mathlib.Core.Bool.{Bool, _&&_}
 use Prim.Native.Nat.{ℕ, max}
 use lib.Dec.{leb}
-use lib.IntN.{ℤ, pos, natAbs, _+ℤ_, _-ℤ_}
+use lib.IntN.{ℤ, natAbs, _+ℤ_, _-ℤ_}
 use Rattle.hex.specs.Limits.{coordinateLimit}
 use Rattle.hex.specs.Directions.{stepOf}
 use Rattle.hex.specs.declared.Tile.{Tile}

@@ -1,6 +1,5 @@
 -- Figures: their numbers are small, so that no sum of them wraps.
-use mathlib.Core.Path.{_≡_, refl}
-use Prim.Native.Nat.{ℕ, zero, suc, _+_, _*_, _/_, _<_, _≤_}
+use Prim.Native.Nat.{ℕ, zero, suc, _+_, _*_, _<_, _≤_}
 use native.Mathlib.Omega.{arith}
 use Rattle.hex.specs.Limits.{rangeLimit}
 use Rattle.rings.specs.Leaves.{legsOf, ringLeg, legAt, LegFits}

@@ -1,16 +1,12 @@
 -- How far figures reach: a step is no longer than 1, so k of them lead k further at most.
-use mathlib.Core.Path.{_≡_}
-use Prim.Native.Nat.{ℕ, zero, suc, _+_, _*_, _≤_}
+use Prim.Native.Nat.{ℕ, _+_, _*_, _≤_}
 use native.Mathlib.Nat.{mul-le-mul-left}
 use native.Mathlib.Omega.{arith}
 use lib.IntN.{ℤ, pos, natAbs, _+ℤ_, _*ℤ_}
 use Rattle.whole.proofs.Differences.{by1, by2}
 use Rattle.whole.proofs.Kit.{dif, dif-b}
 use Rattle.hex.specs.Directions.{stepOf}
-use Rattle.hex.specs.Limits.{coordinateLimit}
-use Rattle.hex.specs.Tiles.{withinLimit}
 use Rattle.hex.specs.declared.Tile.{Tile}
-use Rattle.hex.proofs.Limit.{within-is}
 use Rattle.hex.proofs.Metric.{step-small}
 use Rattle.rings.specs.Leaves.{Near}
 use Rattle.rings.specs.Rings.{along}

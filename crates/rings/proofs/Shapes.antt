@@ -1,18 +1,16 @@
 -- The figures of the code are the lists that the promises name, and have as many tiles as the code counts.
 use mathlib.Core.Path.{_≡_, refl, sym, ap, ap₂, _∙_}
-use mathlib.Core.List.{List, [], _∷_, _++_, append-nil}
-use Prim.Native.Nat.{ℕ, zero, suc, _+_, _-_, _*_, _/_, _%_, _<_, _≤_}
+use mathlib.Core.List.{List, [], _∷_, _++_}
+use Prim.Native.Nat.{ℕ, zero, suc, _+_, _-_, _*_, _/_, _%_, _≤_}
 use native.Mathlib.Nat.{zero-add}
 use native.Mathlib.Omega.{arith}
 use lib.ListN.{length}
 use Rattle.hex.specs.declared.Tile.{Tile}
-use Rattle.runs.specs.Lists.{gather, total}
+use Rattle.runs.specs.Lists.{gather}
 use Rattle.runs.proofs.Gathered.{gather-ext, gather-length}
-use Rattle.rings.specs.Counts.{ringCount}
-use Rattle.rings.specs.Leaves.{legsOf, ringLeg, legAt, tilesFrom, legTiles, figureAt, figures, tilesAt, tilesOf}
+use Rattle.rings.specs.Leaves.{ringLeg, tilesFrom, figureAt, figures, tilesAt, tilesOf}
 use Rattle.rings.specs.Rings.{along, leg, heading, corner, ring, edge, cornerEdge, ranges}
 use Rattle.rings.specs.declared.figure.Figure.{Figure}
-use Rattle.rings.specs.declared.figure.Leg.{Leg}
 use Rattle.rings.specs.declared.figure.Shape.{Shape}
 use Rattle.rings.proofs.Corners.{stay, along-same, along-more, corner-on, corner-back}
 use Rattle.rings.proofs.Lengths.{ring-length, edge-length, cornerEdge-length}

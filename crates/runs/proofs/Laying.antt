@@ -1,5 +1,5 @@
 -- A list of tiles laid into a run piece by piece: the law of every loop that writes.
-use mathlib.Core.Path.{_≡_, refl, sym, ap, ap₂, _∙_, subst}
+use mathlib.Core.Path.{_≡_, sym, ap, _∙_, subst}
 use mathlib.Core.List.{List, [], _∷_, _++_}
 use Prim.Native.Nat.{ℕ, _+_, _*_, _≤_, _<_}
 use native.Mathlib.Omega.{arith}
@@ -10,7 +10,7 @@ use Rattle.runs.specs.Laid.{Laid}
 use Rattle.runs.specs.Lists.{gather}
 use Rattle.runs.specs.Runs.{entries, written, Put}
 use Rattle.runs.proofs.Gathered.{gather-none, gather-more, gather-room}
-use Rattle.runs.proofs.Written.{written-none, length-written, written-more, length-entries, entries-append}
+use Rattle.runs.proofs.Written.{written-none, written-more, length-entries, entries-append}
 
 -- The same tiles, as another term.
 pub laid-as : {entry : List ℤ} {at next : ℕ} {exit : List ℤ} {l t : List Tile} → l ≡ t → Laid entry at l next exit → Laid entry at t next exit

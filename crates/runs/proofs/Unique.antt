@@ -1,5 +1,5 @@
 -- Each public call's promise leaves one outcome: two answers that meet it are equal, and so are the runs at exit. Of a call that lists, whatever it lists, this is shown once.
-use mathlib.Core.Path.{_≡_, refl, sym, ap, _∙_}
+use mathlib.Core.Path.{_≡_, refl, sym, _∙_}
 use mathlib.Core.List.{List}
 use Prim.Native.Nat.{ℕ, _+_, _*_, _<_, _≤_}
 use native.Mathlib.Decide.{decLe}

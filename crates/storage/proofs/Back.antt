@@ -1,5 +1,5 @@
 -- The way back in tiles: a tile of a map is the only one with its index, and every number below the area is the index of the tile that the code answers.
-use mathlib.Core.Path.{_≡_, refl, sym, ap, ap₂, _∙_, subst}
+use mathlib.Core.Path.{_≡_, ap, ap₂, _∙_}
 use mathlib.Core.Bool.{true}
 use Prim.Native.Nat.{ℕ, _<_, _≤_}
 use native.Mathlib.Omega.{arith}
@@ -16,7 +16,7 @@ use Rattle.storage.specs.declared.Index.{Index}
 use Rattle.storage.specs.declared.Map.{Map}
 use Rattle.storage.proofs.Ending.{OneHas}
 use Rattle.storage.proofs.Maps.{disc-of, of-disc}
-use Rattle.storage.proofs.Strips.{Disc, value, value-below, one-tile, has-tile, backX, backY}
+use Rattle.storage.proofs.Strips.{value, value-below, one-tile, has-tile, backX, backY}
 
 gone-back : (c x : ℤ) → (c +ℤ x) -ℤ c ≡ x
 gone-back = by2 _ (simp linear (omega arith))

@@ -1,7 +1,7 @@
 -- Laws of maps: which refusal each test leads to, what is known of a map that is fine, and which tiles are of a map.
-use mathlib.Core.Path.{_≡_, refl, ap}
+use mathlib.Core.Path.{_≡_, refl}
 use mathlib.Core.Bool.{Bool, true, false, cond}
-use Prim.Native.Nat.{ℕ, zero, suc, _+_, _*_, _≤_, _<_, max}
+use Prim.Native.Nat.{ℕ, suc, _+_, _*_, _≤_, _<_}
 use native.Mathlib.Nat.{mul-le-mul-right}
 use native.Mathlib.Omega.{arith}
 use borrow.Author.Tests.{le-leb, lt-leb, leb-true}
@@ -12,7 +12,7 @@ use Rattle.hex.specs.Refusals.{beyondLimit, tooLarge}
 use Rattle.hex.specs.Tiles.{distanceOf, span, withinLimit}
 use Rattle.hex.specs.declared.Tile.{Tile}
 use Rattle.hex.proofs.Limit.{within-is}
-use Rattle.storage.specs.Maps.{mapRefusal, ofMap, areaOf}
+use Rattle.storage.specs.Maps.{mapRefusal, ofMap}
 use Rattle.storage.specs.declared.Map.{Map}
 use Rattle.storage.proofs.Strips.{Disc}
 

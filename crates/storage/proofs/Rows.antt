@@ -5,7 +5,7 @@ use Prim.Native.Nat.{ℕ, _+_, _-_, _*_, _≤_, _<_}
 use native.Mathlib.Omega.{arith}
 use lib.IntN.{ℤ, pos, negsuc, natAbs, _+ℤ_, _-ℤ_}
 use lib.Signed.{_≤ℤ_}
-use Rattle.whole.proofs.Differences.{_⊝_, by1, by2, by3, by4, linear, eq-of, eq-to, le-to}
+use Rattle.whole.proofs.Differences.{by1, by2, by3, by4, linear}
 use Rattle.whole.proofs.Kit.{dif-b, zr}
 use Rattle.hex.specs.Answers.{accepted, refusedTile}
 use Rattle.hex.specs.Refusals.{notOfMap}

@@ -1,19 +1,17 @@
 -- Which tiles of a disc have which index, over every radius: the indices, r more, lie in strips of 3r+2, and place w of strip m has one tile.
-use mathlib.Core.Path.{_≡_, refl, sym, ap, ap₂, _∙_, subst}
-use mathlib.Core.Bool.{Bool, true, false, cond}
+use mathlib.Core.Path.{_≡_, sym, ap, ap₂, _∙_, subst}
 use Prim.Native.Nat.{ℕ, zero, suc, _+_, _*_, _-_, _/_, _%_, _<_, _≤_}
 use native.Mathlib.Omega.{arith}
 use native.Mathlib.Nat.{mod-lt, div-add-mod, mul-le-mul-right}
 use native.Mathlib.Decide.{decLe}
 use lib.Arith.{digits-div, digits-mod}
-use lib.Dec.{leb}
 use lib.IntN.{ℤ, pos, negsuc, natAbs, _+ℤ_, _-ℤ_, _*ℤ_}
 use lib.Signed.{_≤ℤ_}
-use borrow.Author.Tests.{leb-true, leb-false, le-leb, lt-leb}
+use borrow.Author.Tests.{le-leb, lt-leb}
 use Rattle.whole.specs.Euclid.{remainder}
-use Rattle.whole.proofs.Differences.{_⊝_, by1, by2, by3, linear, d-mul, d-negsuc, dif-up}
+use Rattle.whole.proofs.Differences.{_⊝_, by1, by3, linear, d-mul, d-negsuc, dif-up}
 use Rattle.whole.proofs.Euclid.{euclid-only, remainder-below}
-use Rattle.whole.proofs.Kit.{dif, dif-b}
+use Rattle.whole.proofs.Kit.{dif-b}
 use Rattle.storage.specs.Maps.{areaOf}
 use Rattle.storage.specs.Hexmod.{shiftOf}
 use Rattle.storage.specs.Leaves.{stripX, stripY}

@@ -2,7 +2,7 @@
 use mathlib.Core.Path.{_≡_, refl, sym, _∙_}
 use mathlib.Core.Bool.{Bool}
 use Prim.Native.Nat.{ℕ}
-use Rattle.hex.specs.Answers.{Told, Answer, found, refusal, TileTells}
+use Rattle.hex.specs.Answers.{Answer, found, refusal, TileTells}
 use Rattle.hex.specs.declared.Tile.{Tile}
 use Rattle.hex.specs.declared.TileAnswer.{TileAnswer}
 use Rattle.hex.proofs.Tells.{one-value, enum-tells-one, tile-tells-one}

@@ -2,14 +2,14 @@
 -- the sign is such a quotient; a remainder does not change by whole turns; and the rules by which `Kit` reads both.
 use mathlib.Core.Path.{_≡_, refl, sym, ap, subst}
 use mathlib.Core.Bool.{true}
-use Prim.Native.Nat.{ℕ, zero, suc, _+_, _*_, _-_, _/_, _%_, _<_, _≤_}
+use Prim.Native.Nat.{ℕ, zero, suc, _+_, _*_, _-_, _/_, _%_, _<_}
 use native.Mathlib.Nat.{div-add-mod, mod-lt}
 use native.Mathlib.Omega.{arith}
 use lib.Dec.{T, ltb, ltb→lt}
 use lib.IntN.{ℤ, pos, negsuc, _+ℤ_, _-ℤ_, _*ℤ_}
 use lib.Signed.{shrZ}
 use Rattle.whole.specs.Euclid.{quotient, remainder}
-use Rattle.whole.proofs.Differences.{_⊝_, by2, by3, linear, d-mul, split, dif-up, dif-down}
+use Rattle.whole.proofs.Differences.{_⊝_, by2, by3, linear, d-mul}
 
 -- z is k times its quotient and its remainder more, and the remainder is below k.
 pub euclid : (z : ℤ) (k : ℕ) → 0 < k → pos k *ℤ quotient z k +ℤ pos (remainder z k) ≡ z

@@ -1,5 +1,4 @@
 -- `neighbor` meets its contract: each coordinate and its part of the step are summed exactly.
-use mathlib.Core.Path.{_≡_}
 use mir.Syntax.{w32, w64}
 use mir.Val.{SFits}
 use mir.Facts.{toZ-ofZ}

@@ -1,10 +1,8 @@
 -- `turned` meets its contract: a sum modulo 6 is that of the parts modulo 6.
-use mathlib.Core.Path.{_≡_, ap}
+use mathlib.Core.Path.{_≡_}
 use Prim.Native.Nat.{ℕ, _+_, _%_}
 use native.Mathlib.Omega.{arith}
 use borrow.Author.Needs.{needs}
-use Rattle.hex.specs.Directions.{turnedBy}
-use Rattle.hex.specs.declared.Direction.{Direction}
 use Rattle.hex.proofs.turned.Statement.{statement}
 use Rattle.hex.proofs.turned.Tie as tie
 

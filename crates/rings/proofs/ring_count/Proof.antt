@@ -1,9 +1,5 @@
 -- `ring_count` meets its contract: the two cases of the definition are the two ways through the code.
-use mathlib.Core.Path.{_≡_, refl}
-use Prim.Native.Nat.{ℕ, zero, suc, _*_}
-use native.Mathlib.Omega.{arith}
 use borrow.Author.Needs.{needs}
-use Rattle.rings.specs.Counts.{ringCount}
 use Rattle.rings.proofs.Numbers.{ring-some}
 use Rattle.rings.proofs.ring_count.Statement.{statement}
 use Rattle.rings.proofs.ring_count.Tie as tie

@@ -1,6 +1,5 @@
 -- `from_row_column` meets its contract: no tile of the map has a row or a column above 2r, and of the others one tile can have them.
 use mathlib.Core.Path.{_≡_, sym, ap, _∙_}
-use mathlib.Core.Bool.{false, true}
 use native.Mathlib.Omega.{arith}
 use borrow.Author.Needs.{needs}
 use borrow.Author.Tests.{not-true, not-false}

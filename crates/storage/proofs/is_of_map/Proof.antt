@@ -1,5 +1,5 @@
 -- `is_of_map` meets its contract: the test is that of the definition.
-use mathlib.Core.Path.{_≡_, ap}
+use mathlib.Core.Path.{ap}
 use Prim.Native.Nat.{ℕ}
 use lib.Dec.{leb}
 use borrow.Author.Needs.{needs}

@@ -1,5 +1,5 @@
 -- `half` meets its contract: the shift rounds down, and what it gives is no larger than z.
-use mathlib.Core.Path.{_≡_, _∙_, ap}
+use mathlib.Core.Path.{_≡_, _∙_}
 use native.Mathlib.Omega.{arith}
 use lib.IntN.{ℤ}
 use lib.Signed.{shrZ}

@@ -1,5 +1,5 @@
 -- `sum` meets its contract: both numbers are widened first, and then the sum cannot pass 64 bits.
-use mathlib.Core.Path.{ap, _∙_}
+use mathlib.Core.Path.{ap}
 use native.Mathlib.Omega.{arith}
 use lib.IntN.{natAbs}
 use mir.Facts.{toZ-ofZ}

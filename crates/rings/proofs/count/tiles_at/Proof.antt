@@ -1,6 +1,5 @@
 -- `tiles_at` meets its contract, shape by shape.
-use mathlib.Core.Path.{_≡_, refl, sym, ap, _∙_}
-use Prim.Native.Nat.{ℕ}
+use mathlib.Core.Path.{sym, ap, _∙_}
 use borrow.Author.Needs.{needs}
 use Rattle.rings.specs.Leaves.{tilesAt}
 use Rattle.rings.specs.declared.figure.Shape.{Shape}

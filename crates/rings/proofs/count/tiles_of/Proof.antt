@@ -2,7 +2,6 @@
 use mathlib.Core.Path.{_≡_, sym, ap, _∙_}
 use Prim.Native.Nat.{ℕ, _+_, _-_, _*_, _≤_}
 use native.Mathlib.Omega.{arith}
-use borrow.Author.Needs.{needs}
 use Rattle.runs.specs.Lists.{total}
 use Rattle.runs.proofs.Gathered.{total-none, total-more}
 use Rattle.rings.specs.Leaves.{tilesAt}

@@ -1,14 +1,12 @@
 -- `listed` meets its contract, by the three ways in which a listing ends.
-use mathlib.Core.Path.{_≡_, sym, ap, subst, _∙_}
-use Prim.Native.Nat.{ℕ, _+_, _-_, _*_, _<_, _≤_}
+use mathlib.Core.Path.{_≡_, sym, ap, _∙_}
+use Prim.Native.Nat.{_+_, _-_}
 use native.Mathlib.Omega.{arith}
 use borrow.Author.Needs.{needs}
-use denote.Ref.{now}
 use lib.ListN.{length}
 use Rattle.runs.proofs.Ending.{refused-for, short-of-room, listed-all}
 use Rattle.runs.proofs.Laying.{laid-as}
-use Rattle.rings.specs.Judged.{refusalOf}
-use Rattle.rings.specs.Leaves.{figures, tilesOf, Fits}
+use Rattle.rings.specs.Leaves.{figures, tilesOf}
 use Rattle.rings.proofs.Judging.{Fine, fine}
 use Rattle.rings.proofs.Shapes.{figures-length}
 use Rattle.rings.proofs.write.listed.Statement.{statement}

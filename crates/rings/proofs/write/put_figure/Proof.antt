@@ -1,5 +1,5 @@
 -- `put_figure` meets its contract: at the loop's head the first i legs are laid.
-use mathlib.Core.Path.{_≡_, refl, sym, ap, subst, _∙_}
+use mathlib.Core.Path.{_≡_, refl, ap, _∙_}
 use mathlib.Core.List.{List}
 use Prim.Native.Nat.{ℕ, _+_, _-_, _*_, _<_, _≤_}
 use native.Mathlib.Omega.{arith}
@@ -10,7 +10,7 @@ use Rattle.hex.specs.declared.Tile.{Tile}
 use Rattle.runs.specs.Laid.{Laid}
 use Rattle.runs.specs.Lists.{gather}
 use Rattle.runs.proofs.Laying.{laid-as, laid-none, laid-room, laid-turn, laid-all}
-use Rattle.rings.specs.Leaves.{legsOf, legAt, legTiles, LegFits}
+use Rattle.rings.specs.Leaves.{legsOf, legAt, legTiles}
 use Rattle.rings.specs.declared.figure.Figure.{Figure}
 use Rattle.rings.specs.declared.figure.Leg.{Leg}
 use Rattle.rings.proofs.Figures.{leg-fits}

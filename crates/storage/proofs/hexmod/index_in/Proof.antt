@@ -1,7 +1,7 @@
 -- `index_in` meets its contract: differences of 32 bits, 182 times, fit 64 bits, and the remainder is that of the definition.
 use mathlib.Core.Path.{_≡_, ap, ap₂, _∙_}
 use Prim.Native.Nat.{ℕ, _+_, _*_, _≤_, _^_}
-use native.Mathlib.Nat.{mul-le-mul-right, mul-le-mul-left}
+use native.Mathlib.Nat.{mul-le-mul-left}
 use native.Mathlib.Omega.{arith}
 use lib.IntN.{ℤ, pos, natAbs, _+ℤ_, _-ℤ_, _*ℤ_}
 use mir.Syntax.{w32, w64}
@@ -9,11 +9,10 @@ use mir.Val.{SFits, toZ, ofZ}
 use mir.Facts.{toZ-ofZ, toZ-pos}
 use borrow.Author.Needs.{needs}
 use Rattle.whole.specs.Euclid.{remainder}
-use Rattle.whole.proofs.Differences.{by1, by2, by3}
+use Rattle.whole.proofs.Differences.{by1, by2}
 use Rattle.whole.proofs.Kit.{dif-b}
 use Rattle.whole.proofs.Machine.{read, small-fits}
 use Rattle.storage.specs.Hexmod.{indexIn}
-use Rattle.storage.specs.Maps.{areaOf}
 use Rattle.storage.proofs.hexmod.index_in.Statement.{statement}
 use Rattle.storage.proofs.hexmod.index_in.Tie as tie
 

@@ -1,5 +1,5 @@
 -- `tile_at` meets its contract: the strips are 0 to r, and a place in one is below 3r+2.
-use Prim.Native.Nat.{_+_, _*_, _/_, _%_, _<_}
+use Prim.Native.Nat.{_+_, _/_, _%_, _<_}
 use native.Mathlib.Nat.{mod-lt, div-add-mod}
 use native.Mathlib.Omega.{arith}
 use borrow.Author.Needs.{needs}
