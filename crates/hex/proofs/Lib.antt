@@ -1,4 +1,5 @@
 -- Laws of tiles, directions, distance and answers, for this crate's proofs and for those above it.
+pub mod Chains
 pub mod Judging
 pub mod Limit
 pub mod Metric

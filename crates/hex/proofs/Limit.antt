@@ -1,7 +1,7 @@
 -- Laws of the coordinate limit.
 use mathlib.Core.Path.{_≡_, refl}
-use mathlib.Core.Bool.{Bool, true, false, _&&_}
-use Prim.Native.Nat.{ℕ, _<_, _≤_}
+use mathlib.Core.Bool.{true, false}
+use Prim.Native.Nat.{_<_, _≤_}
 use native.Mathlib.Omega.{arith}
 use lib.Dec.{leb}
 use lib.IntN.{natAbs}
@@ -13,14 +13,7 @@ use Rattle.whole.proofs.Machine.{small-fits}
 use Rattle.hex.specs.Limits.{coordinateLimit}
 use Rattle.hex.specs.Tiles.{withinLimit}
 use Rattle.hex.specs.declared.Tile.{Tile}
-
-and-parts : (a b : Bool) → (a && b) ≡ true → (a ≡ true) × (b ≡ true)
-and-parts true b e = (refl, e)
-and-parts false b e = let z : _≡_ {A = ℕ} 0 1 = cc in absurd (omega arith)
-
-and-false : (a : Bool) → (a && false) ≡ false
-and-false true = refl
-and-false false = refl
+use Rattle.hex.proofs.Chains.{both, and-no}
 
 module _ (t : Tile) where
   pub within : natAbs (t .x) ≤ coordinateLimit → natAbs (t .y) ≤ coordinateLimit → withinLimit t ≡ true
@@ -33,11 +26,11 @@ module _ (t : Tile) where
 
   pub beyond-y : coordinateLimit < natAbs (t .y) → withinLimit t ≡ false
   unfolding withinLimit
-  beyond-y p = rw (lt-leb (natAbs (t .y)) coordinateLimit p) (and-false (leb (natAbs (t .x)) coordinateLimit))
+  beyond-y p = rw (lt-leb (natAbs (t .y)) coordinateLimit p) (and-no (leb (natAbs (t .x)) coordinateLimit) refl)
 
   pub within-is : withinLimit t ≡ true → (natAbs (t .x) ≤ coordinateLimit) × (natAbs (t .y) ≤ coordinateLimit)
   unfolding withinLimit
-  within-is e = let p = and-parts _ _ e in (leb-true _ _ (p .0), leb-true _ _ (p .1))
+  within-is e = let p = both _ _ e in (leb-true _ _ (p .0), leb-true _ _ (p .1))
 
   -- A coordinate within the limit is read back from 32 bits.
   pub within-read : withinLimit t ≡ true → (toZ w32 (ofZ w32 (t .x)) ≡ t .x) × (toZ w32 (ofZ w32 (t .y)) ≡ t .y)

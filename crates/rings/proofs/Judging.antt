@@ -1,21 +1,17 @@
 -- Laws of the judgement: which refusal each test leads to, and what is known once all are passed.
-use mathlib.Core.Path.{_≡_, refl}
-use mathlib.Core.Bool.{Bool, true, false, cond, _&&_}
-use Prim.Native.Nat.{ℕ, suc, _≤_, _<_}
-use native.Mathlib.Omega.{arith}
+use mathlib.Core.Path.{_≡_}
+use mathlib.Core.Bool.{true, false, _&&_}
+use Prim.Native.Nat.{ℕ, _≤_, _<_}
 use borrow.Author.Tests.{le-leb, lt-leb, leb-true}
 use lib.Dec.{leb}
 use Rattle.hex.specs.Limits.{rangeLimit}
 use Rattle.hex.specs.Refusals.{beyondLimit, tooLarge, unknownNumber}
 use Rattle.hex.specs.Tiles.{withinLimit}
 use Rattle.hex.specs.declared.Tile.{Tile}
+use Rattle.hex.proofs.Chains.{passed, both, and-no}
 use Rattle.hex.proofs.Limit.{within-is}
 use Rattle.rings.specs.Judged.{refusalOf}
 use Rattle.rings.specs.Leaves.{Near, centreReach}
-
-and-no : (a : Bool) {b : Bool} → b ≡ false → (a && b) ≡ false
-and-no true e = e
-and-no false e = refl
 
 module _ (c : Tile) (first last d s : ℕ) where
   pub far-away : withinLimit c ≡ false → beyondLimit ≡ refusalOf c first last d s
@@ -51,14 +47,6 @@ pub record Fine (c : Tile) (first last d s : ℕ) : Type 0 where
   pub fine-last : last ≤ rangeLimit
   pub fine-direction : d ≤ 5
   pub fine-sense : s ≤ 1
-
-passed : (b : Bool) (n m : ℕ) → cond b m (suc n) ≡ 0 → (b ≡ true) × (m ≡ 0)
-passed true n m e = (refl, e)
-passed false n m e = absurd (omega arith)
-
-both : (a b : Bool) → (a && b) ≡ true → (a ≡ true) × (b ≡ true)
-both true b e = (refl, e)
-both false b e = let z : _≡_ {A = ℕ} 0 1 = cc in absurd (omega arith)
 
 pub fine : (c : Tile) (first last d s : ℕ) → refusalOf c first last d s ≡ 0 → Fine c first last d s
 unfolding refusalOf

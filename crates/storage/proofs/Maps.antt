@@ -1,7 +1,7 @@
 -- Laws of maps: which refusal each test leads to, what is known of a map that is fine, and which tiles are of a map.
-use mathlib.Core.Path.{_≡_, refl}
-use mathlib.Core.Bool.{Bool, true, false, cond}
-use Prim.Native.Nat.{ℕ, suc, _+_, _*_, _≤_, _<_}
+use mathlib.Core.Path.{_≡_}
+use mathlib.Core.Bool.{true, false}
+use Prim.Native.Nat.{ℕ, _+_, _*_, _≤_, _<_}
 use native.Mathlib.Nat.{mul-le-mul-right}
 use native.Mathlib.Omega.{arith}
 use borrow.Author.Tests.{le-leb, lt-leb, leb-true}
@@ -11,6 +11,7 @@ use Rattle.hex.specs.Limits.{coordinateLimit, radiusLimit}
 use Rattle.hex.specs.Refusals.{beyondLimit, tooLarge}
 use Rattle.hex.specs.Tiles.{distanceOf, span, withinLimit}
 use Rattle.hex.specs.declared.Tile.{Tile}
+use Rattle.hex.proofs.Chains.{passed}
 use Rattle.hex.proofs.Limit.{within-is}
 use Rattle.storage.specs.Maps.{mapRefusal, ofMap}
 use Rattle.storage.specs.declared.Map.{Map}
@@ -34,10 +35,6 @@ pub record Fine (map : Map) : Type 0 where
   pub near-x : natAbs (map .centre .x) ≤ coordinateLimit
   pub near-y : natAbs (map .centre .y) ≤ coordinateLimit
   pub small : map .radius ≤ radiusLimit
-
-passed : (b : Bool) (n m : ℕ) → cond b m (suc n) ≡ 0 → (b ≡ true) × (m ≡ 0)
-passed true n m e = (refl, e)
-passed false n m e = absurd (omega arith)
 
 pub fine : (map : Map) → mapRefusal map ≡ 0 → Fine map
 unfolding mapRefusal

@@ -78,14 +78,14 @@ from-row r row y c e = go y c (pos r) (pos row) e
     go : (y c r row : ℤ) → row ≡ (y -ℤ c) +ℤ r → c +ℤ (row -ℤ r) ≡ y
     go = by4 _ (simp linear (omega arith))
 
+pub whole-again : (p q s : ℤ) → s ≡ p -ℤ q → s +ℤ q ≡ p
+whole-again = by3 _ (simp linear (omega arith))
+
 from-column : (r cut column : ℕ) (x c : ℤ) → pos column ≡ ((x -ℤ c) +ℤ pos r) -ℤ pos cut → c +ℤ (pos (column + cut) -ℤ pos r) ≡ x
-from-column r cut column x c e = go x c (pos r) (pos (column + cut)) (sum (x -ℤ c +ℤ pos r) (pos cut) (pos column) e)
+from-column r cut column x c e = go x c (pos r) (pos (column + cut)) (whole-again (x -ℤ c +ℤ pos r) (pos cut) (pos column) e)
   where
     go : (x c r far : ℤ) → far ≡ (x -ℤ c) +ℤ r → c +ℤ (far -ℤ r) ≡ x
     go = by4 _ (simp linear (omega arith))
-
-    sum : (p q s : ℤ) → s ≡ p -ℤ q → s +ℤ q ≡ p
-    sum = by3 _ (simp linear (omega arith))
 
 pub row-leads-back : (map : Map) (t : Tile) → ofMap map t ≡ true → tileAtRow map (rowIn map t) (columnIn map t) ≡ t
 row-leads-back map t p =

@@ -8,11 +8,11 @@ use mir.Syntax.{w32}
 use mir.Val.{SFits, toZ, ofZ}
 use mir.Facts.{toZ-ofZ}
 use borrow.Author.Needs.{needs}
-use Rattle.whole.proofs.Differences.{by3, linear, le-to}
+use Rattle.whole.proofs.Differences.{le-to}
 use Rattle.whole.proofs.Machine.{small-fits}
 use Rattle.storage.specs.Hexagonal.{natural, rowIn, columnIn, rowColumn}
 use Rattle.storage.proofs.Maps.{disc-of}
-use Rattle.storage.proofs.Rows.{row-is, column-is, column-fits}
+use Rattle.storage.proofs.Rows.{row-is, column-is, column-fits, whole-again}
 use Rattle.storage.proofs.hexagonal.row_column_in.Statement.{statement}
 use Rattle.storage.proofs.hexagonal.row_column_in.Tie as tie
 
@@ -72,12 +72,9 @@ returns c =
     let s = c .before .before .before .before .before .before .before .before in
     let a = s .args in
     let reach : ℤ = (a .tile .x -ℤ a .map .centre .x) +ℤ pos (a .map .radius) in
-    let whole = over reach (pos (a .map .radius - rowIn (a .map) (a .tile))) (pos (columnIn (a .map) (a .tile))) (column-is (a .map) (a .tile) (s .pre .1 .1 .1)) in
+    let whole = whole-again reach (pos (a .map .radius - rowIn (a .map) (a .tile))) (pos (columnIn (a .map) (a .tile))) (column-is (a .map) (a .tile) (s .pre .1 .1 .1)) in
     let parts : columnIn (a .map) (a .tile) + (a .map .radius - rowIn (a .map) (a .tile)) ≡ c .before .from-rim2 .result = ap natural (whole ∙ sym (far (c .before))) in
     ap₂ rowColumn (row (c .before .before .before .before)) (omega (arith, parts, lacks c))
-  where
-    over : (p q s : ℤ) → s ≡ p -ℤ q → s +ℤ q ≡ p
-    over = by3 _ (simp linear (omega arith))
 
 pub row-column-in-spec : {M : Type 1} → statement M
 row-column-in-spec =
