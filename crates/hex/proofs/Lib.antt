@@ -3,6 +3,7 @@ pub mod Chains
 pub mod Judging
 pub mod Limit
 pub mod Metric
+pub mod Beside
 pub mod NoConstant
 pub mod Tells
 pub mod Turning

@@ -35,6 +35,22 @@ module _ {A : Type 0} (map : Map) (has : Tile → A) (asked : A) where
   pub from-fine : {told : Told Tile} → mapRefusal map ≡ 0 → TheTile map has asked told → FromPlace map has asked told
   from-fine z the = record { map-fine = λ e. the; map-refused = λ l. absurd (omega (arith, z, l)) }
 
+-- A tile that the way back tells is of the map, which is fine, and has what is asked.
+module _ {A : Type 0} (map : Map) (has : Tile → A) (asked : A) (t : Tile) where
+  the-tile : (v : Told Tile) → v ≡ accepted t → TheTile map has asked v → (ofMap map t ≡ true) × (has t ≡ asked)
+  the-tile v q (of s p e) = let same : s ≡ t = ap (λ (v : Told Tile). v .value) q in (sym (ap (ofMap map) same) ∙ p, sym (ap has same) ∙ e)
+  the-tile v q (none n) = let k : _≡_ {A = ℕ} 5 0 = ap (λ (v : Told Tile). v .number) q in absurd (omega arith)
+
+  pub from-found : FromPlace map has asked (accepted t) → (mapRefusal map ≡ 0) × ((ofMap map t ≡ true) × (has t ≡ asked))
+  from-found h = go (mapRefusal map) refl
+    where
+      go : (n : ℕ) → mapRefusal map ≡ n → (mapRefusal map ≡ 0) × ((ofMap map t ≡ true) × (has t ≡ asked))
+      go zero z = (z, the-tile _ refl (h .map-fine z))
+      go (suc n) z =
+          let l : 0 < mapRefusal map = omega arith in
+          let k : 0 ≡ mapRefusal map = ap (λ (v : Told Tile). v .number) (h .map-refused l) in
+          absurd (omega arith)
+
 -- Where no two tiles of a map have the same, one thing told meets the way back.
 unfoldable pub OneHas : {A : Type 0} → Map → (Tile → A) → Type 0
 OneHas map has = (s t : Tile) → ofMap map s ≡ true → ofMap map t ≡ true → has s ≡ has t → s ≡ t

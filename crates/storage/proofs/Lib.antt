@@ -2,7 +2,10 @@
 pub mod Maps
 pub mod Strips
 pub mod Back
+pub mod Besides
 pub mod Ending
+pub mod Neighbors
+pub mod Near
 pub mod Formula
 pub mod RoundTrip
 pub mod Rows

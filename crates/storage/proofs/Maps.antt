@@ -4,7 +4,7 @@ use mathlib.Core.Bool.{true, false}
 use Prim.Native.Nat.{ℕ, _+_, _*_, _≤_, _<_}
 use native.Mathlib.Nat.{mul-le-mul-right}
 use native.Mathlib.Omega.{arith}
-use borrow.Author.Tests.{le-leb, lt-leb, leb-true}
+use borrow.Author.Tests.{eq-eqb, ne-eqb, le-leb, lt-leb, leb-true}
 use lib.Dec.{leb}
 use lib.IntN.{natAbs, _-ℤ_}
 use Rattle.hex.specs.Limits.{coordinateLimit, radiusLimit}
@@ -13,7 +13,7 @@ use Rattle.hex.specs.Tiles.{distanceOf, span, withinLimit}
 use Rattle.hex.specs.declared.Tile.{Tile}
 use Rattle.hex.proofs.Chains.{passed}
 use Rattle.hex.proofs.Limit.{within-is}
-use Rattle.storage.specs.Maps.{mapRefusal, ofMap}
+use Rattle.storage.specs.Maps.{mapRefusal, ofMap, areaOf, tilesOf}
 use Rattle.storage.specs.declared.Map.{Map}
 use Rattle.storage.proofs.Strips.{Disc}
 
@@ -43,6 +43,15 @@ fine map e =
     let b = passed (leb (map .radius) radiusLimit) 1 0 (a .1) in
     let l = within-is (map .centre) (a .0) in
     record { near-x = l .0; near-y = l .1; small = leb-true _ _ (b .0) }
+
+-- How many tiles a map has, by whether it is fine.
+pub tiles-refused : (map : Map) → (mapRefusal map ≡ 0 → ⊥) → 0 ≡ tilesOf map
+unfolding tilesOf
+tiles-refused map h = rw (ne-eqb (mapRefusal map) 0 h)
+
+pub tiles-fine : (map : Map) → mapRefusal map ≡ 0 → tilesOf map ≡ areaOf (map .radius)
+unfolding tilesOf
+tiles-fine map e = rw (eq-eqb (mapRefusal map) 0 e)
 
 pub area-small : (r : ℕ) → r ≤ radiusLimit → 3 * r * (r + 1) ≤ 10980
 area-small r h = omega (arith, mul-le-mul-right r h)

@@ -2,18 +2,18 @@
 use mathlib.Core.Path.{_≡_, refl, sym, ap, _∙_}
 use mathlib.Core.Bool.{Bool, true, false, cond}
 use mathlib.Core.Logic.{_↔_}
-use Prim.Native.Nat.{ℕ, zero, suc, _<_}
+use Prim.Native.Nat.{ℕ, zero, suc}
 use native.Mathlib.Omega.{arith}
 use Rattle.hex.specs.Answers.{Told, accepted, refused}
 use Rattle.hex.specs.Refusals.{notOfMap}
 use Rattle.hex.specs.declared.Tile.{Tile}
 use Rattle.storage.specs.Hexagonal.{toRowColumn, FromRowColumn, rowColumn, rowColumnIn}
 use Rattle.storage.specs.Hexmod.{index, indexOf, toHexmod, FromHexmod}
-use Rattle.storage.specs.Maps.{mapRefusal, ofMap, judgedBy, toPlace, TheTile, of, none, FromPlace}
+use Rattle.storage.specs.Maps.{mapRefusal, ofMap, judgedBy, toPlace, of, FromPlace}
 use Rattle.storage.specs.declared.Index.{Index}
 use Rattle.storage.specs.declared.Map.{Map}
 use Rattle.storage.specs.declared.RowColumn.{RowColumn}
-use Rattle.storage.proofs.Ending.{from-fine, to-found}
+use Rattle.storage.proofs.Ending.{from-fine, from-found, to-found}
 
 module _ {A : Type 0} (zeros : A) (map : Map) (has : Tile → A) (t : Tile) (asked : A) where
   pub there-then-back : toPlace zeros map t (has t) ≡ accepted asked → FromPlace map has asked (accepted t)
@@ -26,20 +26,7 @@ module _ {A : Type 0} (zeros : A) (map : Map) (has : Tile → A) (t : Tile) (ask
       go (suc n) z b p e = let k : suc n ≡ 0 = ap (λ (v : Told A). v .number) e in absurd (omega arith)
 
   pub back-then-there : FromPlace map has asked (accepted t) → toPlace zeros map t (has t) ≡ accepted asked
-  back-then-there h = go (mapRefusal map) refl
-    where
-      found : mapRefusal map ≡ 0 → (v : Told Tile) → v ≡ accepted t → TheTile map has asked v → toPlace zeros map t (has t) ≡ accepted asked
-      found z v q (of s p e) =
-          let same : s ≡ t = ap (λ (v : Told Tile). v .value) q in
-          sym (to-found zeros map t (has t) z (sym (ap (ofMap map) same) ∙ p) asked (sym e ∙ ap has same))
-      found z v q (none n) = let k : _≡_ {A = ℕ} 5 0 = ap (λ (v : Told Tile). v .number) q in absurd (omega arith)
-
-      go : (n : ℕ) → mapRefusal map ≡ n → toPlace zeros map t (has t) ≡ accepted asked
-      go zero z = found z _ refl (h .map-fine z)
-      go (suc n) z =
-          let l : 0 < mapRefusal map = omega arith in
-          let k : 0 ≡ mapRefusal map = ap (λ (v : Told Tile). v .number) (h .map-refused l) in
-          absurd (omega arith)
+  back-then-there h = let f = from-found map has asked t h in sym (to-found zeros map t (has t) (f .0) (f .1 .0) asked (sym (f .1 .1)))
 
 pub index-there-and-back : (map : Map) (t : Tile) (i : Index) → (toHexmod map t ≡ accepted i) ↔ FromHexmod map i (accepted t)
 index-there-and-back map t i = (there-then-back (index 0) map (indexOf map) t i, back-then-there (index 0) map (indexOf map) t i)

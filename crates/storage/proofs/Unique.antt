@@ -1,14 +1,16 @@
 -- Each public call's promise leaves one answer: two answers that meet it are equal.
 use mathlib.Core.Path.{_≡_, refl, sym, _∙_}
 use mathlib.Core.Bool.{Bool}
+use mathlib.Core.List.{List}
 use Prim.Native.Nat.{ℕ}
 use Rattle.hex.specs.Answers.{Answer, found, refusal, TileTells}
 use Rattle.hex.specs.declared.Tile.{Tile}
 use Rattle.hex.specs.declared.TileAnswer.{TileAnswer}
 use Rattle.hex.proofs.Tells.{one-value, enum-tells-one, tile-tells-one}
-use Rattle.storage.specs.Maps.{mapRefusal, ofMap}
+use Rattle.storage.specs.Maps.{mapRefusal, ofMap, tilesOf}
 use Rattle.storage.specs.Hexagonal.{rowColumn, rowColumnIn, rowColumnAnswer, RowColumnTells, toRowColumn, FromRowColumn}
 use Rattle.storage.specs.Hexmod.{index, indexOf, indexAnswer, IndexTells, toHexmod, FromHexmod}
+use Rattle.storage.specs.Neighbors.{Neighbor, SixNeighbors}
 use Rattle.storage.specs.declared.Index.{Index}
 use Rattle.storage.specs.declared.IndexAnswer.{IndexAnswer}
 use Rattle.storage.specs.declared.Map.{Map}
@@ -16,10 +18,14 @@ use Rattle.storage.specs.declared.RowColumn.{RowColumn}
 use Rattle.storage.specs.declared.RowColumnAnswer.{RowColumnAnswer}
 use Rattle.storage.proofs.Back.{one-index}
 use Rattle.storage.proofs.Ending.{from-one}
+use Rattle.storage.proofs.Neighbors.{one-neighbor, one-six}
 use Rattle.storage.proofs.Rows.{one-row-column}
 
 pub refusal-of-unique : (map : Map) {r s : ℕ} → r ≡ mapRefusal map → s ≡ mapRefusal map → r ≡ s
 refusal-of-unique map p q = p ∙ sym q
+
+pub area-unique : (map : Map) {r s : ℕ} → r ≡ tilesOf map → s ≡ tilesOf map → r ≡ s
+area-unique map p q = p ∙ sym q
 
 pub is-of-map-unique : (map : Map) (t : Tile) {r s : Bool} → r ≡ ofMap map t → s ≡ ofMap map t → r ≡ s
 is-of-map-unique map t p q = p ∙ sym q
@@ -38,6 +44,12 @@ to-hexmod-unique map t = enum-tells-one (index 0) indexAnswer index-back index-b
 
 pub from-hexmod-unique : (map : Map) (i : Index) (r s : TileAnswer) → TileTells r (FromHexmod map i) → TileTells s (FromHexmod map i) → r ≡ s
 from-hexmod-unique map i = tile-tells-one _ (from-one map (indexOf map) (one-index map) i)
+
+pub neighbor-unique : (map : Map) (i : Index) (d : ℕ) (r s : IndexAnswer) → IndexTells r (Neighbor map i d) → IndexTells s (Neighbor map i d) → r ≡ s
+neighbor-unique map i d = enum-tells-one (index 0) indexAnswer index-back index-back-is _ (one-neighbor map i d)
+
+pub all-neighbors-unique : (map : Map) (i : Index) (r s : List ℕ) → SixNeighbors map i r → SixNeighbors map i s → r ≡ s
+all-neighbors-unique = one-six
 
 row-column-back : Answer RowColumn → RowColumnAnswer
 row-column-back (found p) = RowColumnAnswer.Found p

@@ -1,11 +1,16 @@
--- What this crate's private functions answer. No public promise cites this file; `proofs/Strips` shows that the tile of a strip is the tile that the promises name.
+-- What this crate's private functions answer. No public promise of this crate cites this file: `proofs/Strips` shows that the tile of a strip is the tile that the promises name, and
+-- `proofs/Near` that what stands beside it is the neighbour.
 use mathlib.Core.Bool.{cond}
 use Prim.Native.Nat.{ℕ, _+_, _-_, _*_, _/_, _%_}
 use lib.Dec.{leb}
-use lib.IntN.{ℤ, pos, _+ℤ_, _-ℤ_}
-use Rattle.hex.specs.Tiles.{tile}
+use lib.IntN.{ℤ, pos, _+ℤ_, _-ℤ_, _*ℤ_}
+use Rattle.hex.specs.Directions.{stepOf}
+use Rattle.hex.specs.Limits.{coordinateLimit, radiusLimit}
+use Rattle.hex.specs.Tiles.{tile, neighborOf}
 use Rattle.hex.specs.declared.Tile.{Tile}
-use Rattle.storage.specs.Hexmod.{shiftOf}
+use Rattle.storage.specs.Hexmod.{shiftOf, indexIn}
+use Rattle.storage.specs.Maps.{ofMap}
+use Rattle.storage.specs.Neighbors.{noIndex}
 use Rattle.storage.specs.declared.Map.{Map}
 
 -- The indices, r more, lie in strips of 3r+2: place w of strip m. Of a strip, the first places are x = m, the last x = m - r.
@@ -20,6 +25,22 @@ inStrip map m w = tile (map .centre .x +ℤ stripX (map .radius) m w) (map .cent
 
 abbrev pub tileAtIndex : Map → ℕ → Tile
 tileAtIndex map i = inStrip map ((i + map .radius) / shiftOf (map .radius)) ((i + map .radius) % shiftOf (map .radius))
+
+-- A tile of a map lies no farther than this from 0 on either axis.
+abbrev pub farthest : ℕ
+farthest = coordinateLimit + radiusLimit
+
+-- How far a step in a direction moves an index, before it is taken modulo the area.
+unfoldable pub strideOf : ℕ → ℕ → ℤ
+strideOf r d = stepOf d .1 +ℤ pos (shiftOf r) *ℤ stepOf d .0
+
+-- The entry of a direction beside a tile of the map.
+unfoldable pub besideIn : Map → Tile → ℕ → ℕ
+besideIn map t d = cond (ofMap map (neighborOf t d)) (indexIn map (neighborOf t d)) noIndex
+
+-- The same by index: what stands in a direction beside the tile that has an index.
+unfoldable pub nearIn : Map → ℕ → ℕ → ℕ
+nearIn map i d = besideIn map (tileAtIndex map i) d
 
 -- The tile of a row and column.
 abbrev pub tileAtRow : Map → ℕ → ℕ → Tile

@@ -1,8 +1,8 @@
 -- A map is a centre and a radius r. Its tiles are those at most r away from the centre; it has 3r(r+1) + 1 of them.
 use mathlib.Core.Path.{_≡_}
-use mathlib.Core.Bool.{Bool, true}
+use mathlib.Core.Bool.{Bool, true, cond}
 use Prim.Native.Nat.{ℕ, zero, suc, _+_, _*_, _<_}
-use lib.Dec.{leb}
+use lib.Dec.{eqb, leb}
 use Rattle.hex.specs.Answers.{Told, accepted, refused, provided, refusedTile}
 use Rattle.hex.specs.Limits.{radiusLimit}
 use Rattle.hex.specs.Refusals.{beyondLimit, tooLarge, notOfMap}
@@ -21,6 +21,10 @@ ofMap map t = leb (distanceOf (map .centre) t) (map .radius)
 -- How many tiles a map of radius r has.
 abbrev pub areaOf : ℕ → ℕ
 areaOf r = 3 * r * (r + 1) + 1
+
+-- How many tiles a map has; 0 for a map that is not fine.
+unfoldable pub tilesOf : Map → ℕ
+tilesOf map = cond (eqb (mapRefusal map) 0) (areaOf (map .radius)) 0
 
 -- What is told of a map with that refusal number: the refusal, or the answer if the number is 0.
 abbrev pub judgedBy : {A : Type 0} → ℕ → (ℕ → A) → A → A

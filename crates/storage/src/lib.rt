@@ -2,14 +2,17 @@
 
 ghost use mathlib.Core.Path.{_≡_};
 ghost use Rattle.hex.specs.Answers.{TileTells};
-ghost use Rattle.storage.specs.Maps.{mapRefusal, ofMap};
+ghost use Rattle.storage.specs.Maps.{mapRefusal, ofMap, tilesOf};
 ghost use Rattle.storage.specs.Hexagonal.{RowColumnTells, toRowColumn, FromRowColumn};
 ghost use Rattle.storage.specs.Hexmod.{IndexTells, toHexmod, FromHexmod};
+ghost use Rattle.storage.specs.Neighbors.{Neighbor, SixNeighbors};
 
 mod around;
+mod beside;
 mod hexagonal;
 mod hexmod;
 
+use hex::Direction;
 use hex::Tile;
 use hex::TileAnswer;
 use hex::limits;
@@ -29,6 +32,9 @@ pub enum IndexAnswer {
     Found(Index),
     Refused(u32),
 }
+
+// In a row of neighbours, what stands for none: no tile has this index.
+pub const NO_INDEX: u32 = 4294967295;
 
 // A row of a map and a column in it, both from 0 on.
 pub struct RowColumn {
@@ -53,6 +59,16 @@ pub fn refusal_of(map: Map) -> u32
         return refusals::TOO_LARGE;
     }
     0
+}
+
+// How many tiles a map has; 0 for a map that is not fine.
+pub fn area(map: Map) -> u32
+    ensures { λ r. ⌜ r ≡ tilesOf map ⌝ }
+{
+    if refusal_of(map) != 0 {
+        return 0;
+    }
+    hexmod::area_of(map.radius)
 }
 
 // Is a tile of the map? Any map and any tile may be asked about.
@@ -88,6 +104,32 @@ pub fn from_hexmod_coordinates(map: Map, index: Index) -> TileAnswer
         return TileAnswer::Refused(refusals::NOT_OF_MAP);
     }
     TileAnswer::Found(hexmod::tile_at(map, index.0))
+}
+
+// The index of the neighbour, in a direction, of the tile that has an index. Direction numbers are taken modulo 6.
+pub fn neighbor(map: Map, index: Index, direction: Direction) -> IndexAnswer
+    ensures { λ r. ⌜ IndexTells r (Neighbor map index (direction .0)) ⌝ }
+{
+    match from_hexmod_coordinates(map, index) {
+        TileAnswer::Refused(number) => IndexAnswer::Refused(number),
+        TileAnswer::Found(tile) => {
+            let next = beside::beside(map, tile, index.0, direction);
+            if next == NO_INDEX {
+                return IndexAnswer::Refused(refusals::NOT_OF_MAP);
+            }
+            IndexAnswer::Found(Index(next))
+        }
+    }
+}
+
+// The indices of all six neighbours at once, for what asks for them tile after tile; `NO_INDEX` stands for none.
+pub fn all_neighbors(map: Map, index: Index) -> [u32; 6]
+    ensures { λ r. ⌜ SixNeighbors map index r ⌝ }
+{
+    let TileAnswer::Found(tile) = from_hexmod_coordinates(map, index) else {
+        return [NO_INDEX; 6];
+    };
+    beside::all_beside(map, tile, index.0)
 }
 
 // The row and column of a tile of the map.
