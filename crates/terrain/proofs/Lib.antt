@@ -3,3 +3,5 @@ pub mod Walks
 pub mod Totals
 pub mod Rules
 pub mod Verdicts
+pub mod Judging
+pub mod Unique
