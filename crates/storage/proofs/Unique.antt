@@ -3,13 +3,13 @@ use mathlib.Core.Path.{_≡_, refl, sym, _∙_}
 use mathlib.Core.Bool.{Bool}
 use mathlib.Core.List.{List}
 use Prim.Native.Nat.{ℕ}
-use Rattle.hex.specs.Answers.{Answer, found, refusal, TileTells}
+use Rattle.hex.specs.Answers.{Told, Answer, found, refusal, TileTells}
 use Rattle.hex.specs.declared.Tile.{Tile}
 use Rattle.hex.specs.declared.TileAnswer.{TileAnswer}
-use Rattle.hex.proofs.Tells.{one-value, enum-tells-one, tile-tells-one}
+use Rattle.hex.proofs.Tells.{One, one-value, enum-tells-one, tile-tells-one}
 use Rattle.storage.specs.Maps.{mapRefusal, ofMap, tilesOf}
 use Rattle.storage.specs.Hexagonal.{rowColumn, rowColumnIn, rowColumnAnswer, RowColumnTells, toRowColumn, FromRowColumn}
-use Rattle.storage.specs.Hexmod.{index, indexOf, indexAnswer, IndexTells, toHexmod, FromHexmod}
+use Rattle.storage.specs.Hexmod.{index, indexOf, indexAnswer, IndexTells, numberOf, toHexmod, FromHexmod}
 use Rattle.storage.specs.Neighbors.{Neighbor, SixNeighbors}
 use Rattle.storage.specs.declared.Index.{Index}
 use Rattle.storage.specs.declared.IndexAnswer.{IndexAnswer}
@@ -39,14 +39,20 @@ unfolding index-back
 index-back-is (IndexAnswer.Found i) = refl
 index-back-is (IndexAnswer.Refused n) = refl
 
+pub index-tells-one : (rule : Told Index → Type 0) → One rule → (r s : IndexAnswer) → IndexTells r rule → IndexTells s rule → r ≡ s
+index-tells-one = enum-tells-one (index 0) indexAnswer index-back index-back-is
+
 pub to-hexmod-unique : (map : Map) (t : Tile) (r s : IndexAnswer) → IndexTells r (λ told. told ≡ toHexmod map t) → IndexTells s (λ told. told ≡ toHexmod map t) → r ≡ s
-to-hexmod-unique map t = enum-tells-one (index 0) indexAnswer index-back index-back-is _ (one-value (toHexmod map t))
+to-hexmod-unique map t = index-tells-one _ (one-value (toHexmod map t))
+
+pub refusal-number-unique : (answer : IndexAnswer) {r s : ℕ} → r ≡ numberOf answer → s ≡ numberOf answer → r ≡ s
+refusal-number-unique answer p q = p ∙ sym q
 
 pub from-hexmod-unique : (map : Map) (i : Index) (r s : TileAnswer) → TileTells r (FromHexmod map i) → TileTells s (FromHexmod map i) → r ≡ s
 from-hexmod-unique map i = tile-tells-one _ (from-one map (indexOf map) (one-index map) i)
 
 pub neighbor-unique : (map : Map) (i : Index) (d : ℕ) (r s : IndexAnswer) → IndexTells r (Neighbor map i d) → IndexTells s (Neighbor map i d) → r ≡ s
-neighbor-unique map i d = enum-tells-one (index 0) indexAnswer index-back index-back-is _ (one-neighbor map i d)
+neighbor-unique map i d = index-tells-one _ (one-neighbor map i d)
 
 pub all-neighbors-unique : (map : Map) (i : Index) (r s : List ℕ) → SixNeighbors map i r → SixNeighbors map i s → r ≡ s
 all-neighbors-unique = one-six

@@ -29,6 +29,11 @@ indexAnswer (IndexAnswer.Refused n) = refusal n
 abbrev pub IndexTells : IndexAnswer → (Told Index → Type 0) → Type 0
 IndexTells r = Tells (index 0) (indexAnswer r)
 
+-- The refusal number of an answer.
+abbrev pub numberOf : IndexAnswer → ℕ
+numberOf (IndexAnswer.Found i) = 0
+numberOf (IndexAnswer.Refused n) = n
+
 -- What the way there tells, and what the way back.
 abbrev pub toHexmod : Map → Tile → Told Index
 toHexmod map t = toPlace (index 0) map t (indexOf map t)

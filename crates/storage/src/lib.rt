@@ -4,7 +4,7 @@ ghost use mathlib.Core.Path.{_≡_};
 ghost use Rattle.hex.specs.Answers.{TileTells};
 ghost use Rattle.storage.specs.Maps.{mapRefusal, ofMap, tilesOf};
 ghost use Rattle.storage.specs.Hexagonal.{RowColumnTells, toRowColumn, FromRowColumn};
-ghost use Rattle.storage.specs.Hexmod.{IndexTells, toHexmod, FromHexmod};
+ghost use Rattle.storage.specs.Hexmod.{IndexTells, numberOf, toHexmod, FromHexmod};
 ghost use Rattle.storage.specs.Neighbors.{Neighbor, SixNeighbors};
 
 mod around;
@@ -90,6 +90,16 @@ pub fn to_hexmod_coordinates(map: Map, tile: Tile) -> IndexAnswer
         return IndexAnswer::Refused(refusals::NOT_OF_MAP);
     }
     IndexAnswer::Found(Index(hexmod::index_in(map, tile)))
+}
+
+// The refusal number of an answer, 0 for an index that was found: for the `else` of a `let .. else`.
+pub fn refusal_number(answer: IndexAnswer) -> u32
+    ensures { λ r. ⌜ r ≡ numberOf answer ⌝ }
+{
+    match answer {
+        IndexAnswer::Found(_) => 0,
+        IndexAnswer::Refused(number) => number,
+    }
 }
 
 // The one tile of the map that has an index.

@@ -1,0 +1,9 @@
+-- What the proofs of this crate share.
+pub mod Totals
+pub mod Nodes
+pub mod Heaps
+pub mod Looking
+pub mod Closing
+pub mod Paving
+pub mod Fillings
+pub mod Unique

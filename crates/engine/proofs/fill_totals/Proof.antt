@@ -1,0 +1,66 @@
+-- `fill_totals` meets its contract: the table is left as it is, or what the leaves tell in the end is written to it.
+use mathlib.Core.Path.{_≡_, sym, _∙_}
+use mathlib.Core.Bool.{true, false}
+use Prim.Native.Nat.{ℕ, _≤_, _<_}
+use denote.Ref.{now}
+use native.Mathlib.Omega.{arith}
+use lib.ListN.{length, getD, length-replicate}
+use borrow.Author.Needs.{needs}
+use borrow.Author.Tests.{not-true, not-false}
+use Rattle.storage.proofs.Maps.{fine, area-small}
+use Rattle.engine.specs.Filling.{fits}
+use Rattle.engine.specs.Turns.{OfMap}
+use Rattle.engine.proofs.Fillings.{Fits, fits-is, fills, leaves-it}
+use Rattle.engine.proofs.fill_totals.Statement.{statement}
+use Rattle.engine.proofs.fill_totals.Tie as tie
+
+fit-requires : tie.Need-fit-requires
+fit-requires c κs = search needs
+
+returns : tie.Need-returns
+returns c = leaves-it _ _ _ _ _ (sym (c .before .fit .ensures) ∙ not-true _ (c .if1 .taken))
+
+-- What is known past the test.
+module _ (c : tie.Else1) where
+  pub known : Fits (c .before .before .before .before .args .map) (c .before .before .before .before .args .start .0) (length (now (c .before .before .before .before .args .efforts))) (length (now (c .before .before .before .before .args .totals)))
+  known = fits-is _ _ _ _ (sym (c .before .fit .ensures) ∙ not-false _ (c .if1 .left))
+
+cast-settle : tie.Need-cast-settle
+cast-settle c = search needs
+
+settle-requires : tie.Need-settle-requires
+settle-requires c κs =
+    let k = known (c .before) in
+    (record { fine = k .map-fine; size = k .efforts-length }, (omega (arith, k .on, k .efforts-length), omega (arith, c .before .before .before .before .before .fits .budget)))
+
+slice-aggregate-write-totals : tie.Need-slice-aggregate-write-totals
+slice-aggregate-write-totals c = search needs
+
+write-totals-requires : tie.Need-write-totals-requires
+write-totals-requires c κs =
+    let s = c .before .before in
+    let k = known (s .before .before) in
+    omega (arith, s .settle .ok, k .table-length, area-small _ (fine _ (k .map-fine) .small))
+
+same-length : tie.Need-same-length
+same-length c = search needs
+
+returns-2 : tie.Need-returns-2
+returns-2 c =
+    let w = c .before .before in
+    let s = w .before .before .before in
+    let e = s .before .before in
+    fills _ _ _ _ _ (known e) (λ i. omega (arith, e .before .before .before .shared-slice-known .given i)) (s .settle .result) _ (s .settle .ensures) (w .write-totals .ensures .0) (w .write-totals .ensures .1) (sym (e .before .fit .ensures) ∙ not-false _ (e .if1 .left))
+
+pub fill-totals-spec : {M : Type 1} → statement M
+fill-totals-spec =
+    tie.close
+    (tie.spec
+    fit-requires
+    returns
+    cast-settle
+    settle-requires
+    slice-aggregate-write-totals
+    write-totals-requires
+    same-length
+    returns-2)

@@ -1,0 +1,74 @@
+-- `look` meets its contract: three ways through it change nothing, and one lowers the tile.
+use Prim.Native.Nat.{_+_, _<_, _≤_}
+use denote.Ref.{now}
+use native.Mathlib.Omega.{arith}
+use borrow.Author.Needs.{needs}
+use Rattle.engine.specs.Settling.{totals, Kept, Looked}
+use Rattle.engine.proofs.Looking.{unchanged, lowered}
+use Rattle.engine.proofs.settling.look.Statement.{statement}
+use Rattle.engine.proofs.settling.look.Tie as tie
+
+add-x : tie.Need-add-x
+add-x c = search needs
+
+add-total-of : tie.Need-add-total-of
+add-total-of c = search needs
+
+mul-total-of : tie.Need-mul-total-of
+mul-total-of c = search needs
+
+slice-read-total-of : tie.Need-slice-read-total-of
+slice-read-total-of c = search needs
+
+total-of-requires : tie.Need-total-of-requires
+total-of-requires c κs = search needs
+
+open-leaf-requires : tie.Need-open-leaf-requires
+open-leaf-requires c κs = search needs
+
+set-leaf-requires : tie.Need-set-leaf-requires
+set-leaf-requires c κs = search needs
+
+same-length : tie.Need-same-length
+same-length c = search needs
+
+returns : tie.Need-returns
+returns c =
+    let l = c .before .before in
+    let m = l .before .before .before in
+    let k = m .before .before .before .before .before .before in
+    let x = k .args in
+    let h = now (x .tree) in
+    let z = l .set-leaf .last .0 in
+    lowered (x .a) (x .budget) (x .base) (x .t) (x .w) h (k .pre .0) (omega arith) (omega arith) (omega arith) (omega (arith, m .if3 .taken, m .before .total-of .ensures)) (omega arith) z
+    (rw (l .before .open-leaf .ensures) at (l .set-leaf .ensures))
+
+-- Nothing is lowered.
+idle : (k : tie.Start) → let x = k .args in let h = now (x .tree) in (x .t < x .a → 0 < x .w → x .base + x .w ≤ x .budget → totals (x .a) h (x .t) ≤ x .base + x .w) → Kept (x .a) (x .base) h h × Looked (x .a) (x .budget) (x .base) (x .t) (x .w) h h
+idle k low = let x = k .args in unchanged (x .a) (x .budget) (x .base) (x .t) (x .w) (now (x .tree)) (k .pre .0) low
+
+returns-2 : tie.Need-returns-2
+returns-2 c = idle (c .before .before .before .before .before .before) (λ ht hw hb. omega (arith, c .if3 .left, c .before .total-of .ensures))
+
+returns-3 : tie.Need-returns-3
+returns-3 c = idle (c .before .before .before) (λ ht hw hb. absurd (omega (arith, c .if2 .left, hb)))
+
+returns-4 : tie.Need-returns-4
+returns-4 c = idle (c .before .before) (λ ht hw hb. absurd (omega (arith, c .if1 .left, hw)))
+
+pub look-spec : {M : Type 1} → statement M
+look-spec =
+    tie.close
+    (tie.spec
+    add-x
+    add-total-of
+    mul-total-of
+    slice-read-total-of
+    total-of-requires
+    open-leaf-requires
+    set-leaf-requires
+    same-length
+    returns
+    returns-2
+    returns-3
+    returns-4)

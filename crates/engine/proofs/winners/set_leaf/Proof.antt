@@ -1,0 +1,141 @@
+-- `set_leaf` meets its contract: on the way up each node is right but the parent of k, and where the loop ends, that one is right too.
+use mathlib.Core.Path.{_≡_, refl, _∙_}
+use Prim.Native.Nat.{ℕ, _+_, _*_, _/_, _<_, _≤_}
+use native.Mathlib.Omega.{arith}
+use lib.ListN.{length, length-set}
+use lib.Seq.{getD-set-other}
+use borrow.Author.Needs.{needs}
+use Rattle.engine.specs.Leaves.{indices}
+use Rattle.engine.specs.Trees.{leaf, Node, Put}
+use Rattle.engine.proofs.Nodes.{But, but-leaf, but-parent, but-none, put-when}
+use Rattle.engine.proofs.winners.set_leaf.Statement.{statement}
+use Rattle.engine.proofs.winners.set_leaf.Tie as tie
+
+abbrev Inv-loop : tie.InvT-loop
+Inv-loop tree₀ a i v k₀ tree k =
+    (1 ≤ k) × (k < 2 * a) × (a ≤ indices) × (length tree ≡ length tree₀) × (2 * a ≤ length tree) × But a tree k × ((j : ℕ) → leaf a tree j ≡ leaf a tree₀ j)
+
+abbrev μ-loop : tie.MeasureT-loop
+μ-loop tree₀ a i v k₀ tree k = k
+
+-- Where the loop ends with all nodes right.
+ended : (l : tie.At-loop Inv-loop μ-loop) → let x = l .before .before .args in ((q : ℕ) → 1 ≤ q → q < x .a → Node (l .loop .tree) q) → Put (x .a) (x .i) (x .v) (x .tree .now) (l .loop .tree)
+ended l nodes =
+    let x = l .before .before .args in
+    let p = l .before .before .pre in
+    put-when (x .a) (x .i) (x .v) (x .tree .now) (l .loop .tree) (p .0) (p .1) (l .loop .inv .3) (l .loop .inv .6) nodes
+
+add-k : tie.Need-add-k Inv-loop μ-loop
+add-k c = search needs
+
+mul-tree : tie.Need-mul-tree Inv-loop μ-loop
+mul-tree c = search needs
+
+slice-write-tree : tie.Need-slice-write-tree Inv-loop μ-loop
+slice-write-tree c = search needs
+
+loop-holds : tie.Need-loop-holds Inv-loop μ-loop
+loop-holds c =
+    let x = c .before .args in
+    let p = c .before .pre in
+    (search needs, search needs, search needs, refl, simp length-set (search needs), but-leaf (x .a) (x .i) (x .v) (x .tree .now) (p .0), λ j. refl)
+
+mul-x : tie.Need-mul-x Inv-loop μ-loop
+mul-x c = search needs
+
+mul-x-2 : tie.Need-mul-x-2 Inv-loop μ-loop
+mul-x-2 c = search needs
+
+slice-read-x : tie.Need-slice-read-x Inv-loop μ-loop
+slice-read-x c = search needs
+
+mul-y : tie.Need-mul-y Inv-loop μ-loop
+mul-y c = search needs
+
+add-y : tie.Need-add-y Inv-loop μ-loop
+add-y c = search needs
+
+mul-y-2 : tie.Need-mul-y-2 Inv-loop μ-loop
+mul-y-2 c = search needs
+
+slice-read-y : tie.Need-slice-read-y Inv-loop μ-loop
+slice-read-y c = search needs
+
+smaller-requires : tie.Need-smaller-requires Inv-loop μ-loop
+smaller-requires c κs = search needs
+
+mul-if1 : tie.Need-mul-if1 Inv-loop μ-loop
+mul-if1 c = search needs
+
+slice-read-if1 : tie.Need-slice-read-if1 Inv-loop μ-loop
+slice-read-if1 c = search needs
+
+returns : tie.Need-returns Inv-loop μ-loop
+returns c =
+    let l = c .before .before .before .before .before .before in
+    ended l (but-none (l .before .before .args .a) (l .loop .k) (l .loop .tree) (l .loop .inv .5) (c .if1 .taken ∙ c .before .before .smaller .ensures))
+
+same-length : tie.Need-same-length Inv-loop μ-loop
+same-length c = returns c .size
+
+mul-tree-2 : tie.Need-mul-tree-2 Inv-loop μ-loop
+mul-tree-2 c = search needs
+
+slice-write-tree-2 : tie.Need-slice-write-tree-2 Inv-loop μ-loop
+slice-write-tree-2 c = search needs
+
+loop-less : tie.Need-loop-less Inv-loop μ-loop
+loop-less c = search needs
+
+loop-again : tie.Need-loop-again Inv-loop μ-loop
+loop-again c =
+    let m = c .before .before in
+    let l = m .before .before .before .before in
+    let x = l .before .before .args in
+    let w = m .smaller .result in
+    let k = l .loop .k in (
+      search needs,
+      search needs,
+      search needs,
+      length-set (l .loop .tree) (k / 2) w ∙ l .loop .inv .3,
+      simp length-set (search needs),
+      but-parent (x .a) k w (l .loop .tree) (search needs) (l .loop .inv .5) (m .smaller .ensures),
+      λ j. getD-set-other (l .loop .tree) (k / 2) (x .a + j) w 0 (λ e. omega (arith, e, l .loop .inv)) ∙ l .loop .inv .6 j,
+    )
+
+returns-2 : tie.Need-returns-2 Inv-loop μ-loop
+returns-2 c =
+    let l = c .before in
+    ended l (λ q h₁ h₂. l .loop .inv .5 q h₁ h₂ (λ e. omega (arith, e, h₁, l .loop .inv)))
+
+same-length-2 : tie.Need-same-length-2 Inv-loop μ-loop
+same-length-2 c = returns-2 c .size
+
+pub set-leaf-spec : {M : Type 1} → statement M
+set-leaf-spec =
+    tie.close
+    (tie.spec
+    Inv-loop
+    μ-loop
+    add-k
+    mul-tree
+    slice-write-tree
+    loop-holds
+    mul-x
+    mul-x-2
+    slice-read-x
+    mul-y
+    add-y
+    mul-y-2
+    slice-read-y
+    smaller-requires
+    mul-if1
+    slice-read-if1
+    same-length
+    returns
+    mul-tree-2
+    slice-write-tree-2
+    loop-less
+    loop-again
+    same-length-2
+    returns-2)
