@@ -1,16 +1,16 @@
 // The questions that are answered by a list of tiles: one set of arguments for all of their kinds, a run that is lent to the call, and the answer laid out from the run.
 
-use crate::answer::Laid;
-use crate::answer::put;
-use crate::arguments::TileArgument;
-use crate::arguments::UnsignedArgument;
-use crate::arguments::tile_at;
-use crate::arguments::unsigned_at;
 use crate::digest::digest_of;
-use crate::question::whole;
-use crate::question::wide;
 use hex::Direction;
 use hex::Tile;
+use questions::answer::Laid;
+use questions::answer::put;
+use questions::answer::whole;
+use questions::answer::wide;
+use questions::arguments::TileArgument;
+use questions::arguments::UnsignedArgument;
+use questions::arguments::tile_at;
+use questions::arguments::unsigned_at;
 use runs::ListAnswer;
 
 // How many words the question of a list takes, the kind included.

@@ -1,31 +1,29 @@
 // The questions: for each kind, which arguments its words are, which call it makes, and which numbers its answer is.
 
-use crate::arguments::PairArgument;
-use crate::arguments::TileArgument;
-use crate::arguments::UnsignedArgument;
-use crate::arguments::pair_at;
-use crate::arguments::tile_at;
-use crate::arguments::unsigned_at;
 use conversions::GridAnswer;
+use conversions::GridPair;
 use hex::Direction;
-use hex::TileAnswer;
+use questions::answer::Asked;
+use questions::answer::one;
+use questions::answer::three;
+use questions::answer::tile_answer;
+use questions::answer::two;
+use questions::answer::whole;
+use questions::answer::wide;
+use questions::arguments::SignedArgument;
+use questions::arguments::TileArgument;
+use questions::arguments::UnsignedArgument;
+use questions::arguments::signed_at;
+use questions::arguments::tile_at;
+use questions::arguments::unsigned_at;
 
 // Every kind has a number below this: as many kinds are counted.
 pub(crate) const KINDS: u32 = 64;
 
-// An answer of at most three numbers, with how many words its question took, the kind included, and how many numbers it has. Numbers past the last are 0.
-pub(crate) struct Answer {
-    pub(crate) took: usize,
-    pub(crate) length: usize,
-    pub(crate) first: i64,
-    pub(crate) second: i64,
-    pub(crate) third: i64,
-}
-
-// What became of a question.
-pub(crate) enum Asked {
-    Answered(Answer),
-    Unreadable,
+// Two words as a pair of a grid.
+enum PairArgument {
+    Is(GridPair),
+    Not,
 }
 
 // Asks the question that the words begin with.
@@ -163,13 +161,7 @@ fn wedge_count(words: &[i64]) -> Asked {
 
 // A count of a range as two numbers, its milliards and the rest, since one word does not hold every count.
 fn count(told: u64) -> Asked {
-    Asked::Answered(Answer {
-        took: 2,
-        length: 2,
-        first: whole(told / 1000000000),
-        second: whole(told % 1000000000),
-        third: 0,
-    })
+    two(2, whole(told / 1000000000), whole(told % 1000000000))
 }
 
 // A pair of a grid, or a refusal, as numbers.
@@ -180,46 +172,13 @@ fn grid_answer(took: usize, told: GridAnswer) -> Asked {
     }
 }
 
-// A tile, or a refusal, as numbers.
-fn tile_answer(took: usize, told: TileAnswer) -> Asked {
-    match told {
-        TileAnswer::Found(tile) => three(took, 0, wide(tile.x), wide(tile.y)),
-        TileAnswer::Refused(number) => three(took, number as i64, 0, 0),
-    }
-}
-
-// A coordinate, or an entry of a run, as a word.
-pub(crate) fn wide(coordinate: i32) -> i64 {
-    coordinate as i64
-}
-
-// A number that is never negative as a word. One that no word holds becomes -1, which no vector expects.
-pub(crate) fn whole(number: u64) -> i64 {
-    if number < 9223372036854775808 {
-        number as i64
-    } else {
-        -1
-    }
-}
-
-// An answer of one number.
-fn one(took: usize, first: i64) -> Asked {
-    Asked::Answered(Answer {
-        took,
-        length: 1,
-        first,
-        second: 0,
-        third: 0,
-    })
-}
-
-// An answer of three numbers.
-fn three(took: usize, first: i64, second: i64, third: i64) -> Asked {
-    Asked::Answered(Answer {
-        took,
-        length: 3,
-        first,
-        second,
-        third,
-    })
+// The words at two places as a pair of a grid.
+fn pair_at(words: &[i64], column_at: usize, row_at: usize) -> PairArgument {
+    let SignedArgument::Is(column) = signed_at(words, column_at) else {
+        return PairArgument::Not;
+    };
+    let SignedArgument::Is(row) = signed_at(words, row_at) else {
+        return PairArgument::Not;
+    };
+    PairArgument::Is(GridPair { column, row })
 }

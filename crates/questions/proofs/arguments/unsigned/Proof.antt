@@ -2,9 +2,9 @@
 use mir.Syntax.{w64}
 use mir.Val.{toZ, ofZ}
 use borrow.Author.Needs.{needs}
-use Rattle.vectors.proofs.Ranges.{unsigned-fits}
-use Rattle.vectors.proofs.arguments.unsigned.Statement.{statement}
-use Rattle.vectors.proofs.arguments.unsigned.Tie as tie
+use Rattle.questions.proofs.Ranges.{unsigned-fits}
+use Rattle.questions.proofs.arguments.unsigned.Statement.{statement}
+use Rattle.questions.proofs.arguments.unsigned.Tie as tie
 
 returns : tie.Need-returns
 returns c = search needs

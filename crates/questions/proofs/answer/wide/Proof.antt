@@ -1,8 +1,8 @@
 -- `wide` is safe: what 32 bits hold, 64 do.
 use mir.Facts.{sfits-widen, sfits-toZ, fits-ofZ}
 use borrow.Author.Needs.{needs}
-use Rattle.vectors.proofs.question.wide.Statement.{statement}
-use Rattle.vectors.proofs.question.wide.Tie as tie
+use Rattle.questions.proofs.answer.wide.Statement.{statement}
+use Rattle.questions.proofs.answer.wide.Tie as tie
 
 cast-result : tie.Need-cast-result
 cast-result c = sfits-widen tt (sfits-toZ (fits-ofZ (c .fits .coordinate)))

@@ -1,34 +1,27 @@
 // From words to arguments. Each word is checked against the range of the type that the question wants, so that no number is cut.
 
-use conversions::GridPair;
 use hex::Tile;
 
 // A word as a signed number of 32 bits.
-pub(crate) enum SignedArgument {
+pub enum SignedArgument {
     Is(i32),
     Not,
 }
 
 // A word as an unsigned number of 32 bits.
-pub(crate) enum UnsignedArgument {
+pub enum UnsignedArgument {
     Is(u32),
     Not,
 }
 
 // Two words as a tile.
-pub(crate) enum TileArgument {
+pub enum TileArgument {
     Is(Tile),
     Not,
 }
 
-// Two words as a pair of a grid.
-pub(crate) enum PairArgument {
-    Is(GridPair),
-    Not,
-}
-
 // The word at a place as a signed number, where there is such a word and it fits.
-pub(crate) fn signed_at(words: &[i64], at: usize) -> SignedArgument {
+pub fn signed_at(words: &[i64], at: usize) -> SignedArgument {
     if at >= words.len() {
         return SignedArgument::Not;
     }
@@ -36,7 +29,7 @@ pub(crate) fn signed_at(words: &[i64], at: usize) -> SignedArgument {
 }
 
 // The word at a place as an unsigned number, where there is such a word and it fits.
-pub(crate) fn unsigned_at(words: &[i64], at: usize) -> UnsignedArgument {
+pub fn unsigned_at(words: &[i64], at: usize) -> UnsignedArgument {
     if at >= words.len() {
         return UnsignedArgument::Not;
     }
@@ -44,7 +37,7 @@ pub(crate) fn unsigned_at(words: &[i64], at: usize) -> UnsignedArgument {
 }
 
 // The words at two places as a tile.
-pub(crate) fn tile_at(words: &[i64], x_at: usize, y_at: usize) -> TileArgument {
+pub fn tile_at(words: &[i64], x_at: usize, y_at: usize) -> TileArgument {
     let SignedArgument::Is(x) = signed_at(words, x_at) else {
         return TileArgument::Not;
     };
@@ -52,17 +45,6 @@ pub(crate) fn tile_at(words: &[i64], x_at: usize, y_at: usize) -> TileArgument {
         return TileArgument::Not;
     };
     TileArgument::Is(Tile { x, y })
-}
-
-// The words at two places as a pair of a grid.
-pub(crate) fn pair_at(words: &[i64], column_at: usize, row_at: usize) -> PairArgument {
-    let SignedArgument::Is(column) = signed_at(words, column_at) else {
-        return PairArgument::Not;
-    };
-    let SignedArgument::Is(row) = signed_at(words, row_at) else {
-        return PairArgument::Not;
-    };
-    PairArgument::Is(GridPair { column, row })
 }
 
 // A word as a signed number, where it fits.

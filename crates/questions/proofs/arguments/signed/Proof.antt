@@ -1,8 +1,8 @@
 -- `signed` is safe: the two tests leave only numbers that 32 bits hold.
 use borrow.Author.Needs.{needs}
-use Rattle.vectors.proofs.Ranges.{signed-fits}
-use Rattle.vectors.proofs.arguments.signed.Statement.{statement}
-use Rattle.vectors.proofs.arguments.signed.Tie as tie
+use Rattle.questions.proofs.Ranges.{signed-fits}
+use Rattle.questions.proofs.arguments.signed.Statement.{statement}
+use Rattle.questions.proofs.arguments.signed.Tie as tie
 
 returns : tie.Need-returns
 returns c = search needs
