@@ -17,6 +17,7 @@ use storage::IndexAnswer;
 use storage::Map;
 use storage::RowColumn;
 use storage::RowColumnAnswer;
+ghost use Rattle.questions.specs.Answers.{Lays};
 
 // Three words as a map.
 enum MapArgument {
@@ -25,7 +26,9 @@ enum MapArgument {
 }
 
 // Asks the question of a map that the words begin with, and lays out its answer.
-pub fn answered(kind: u32, words: &[i64], numbers: &mut [i64]) -> Laid {
+pub fn answered(kind: u32, words: &[i64], numbers: &mut [i64]) -> Laid
+    ensures { λ r. ⌜ Lays (now (numbers .entry)) r (now (numbers .exit)) ⌝ }
+{
     lay(asked(kind, words), numbers)
 }
 

@@ -1,6 +1,8 @@
 // From words to arguments. Each word is checked against the range of the type that the question wants, so that no number is cut.
 
 use hex::Tile;
+ghost use mathlib.Core.Path.{_≡_};
+ghost use Rattle.questions.specs.Arguments.{signedOf, unsignedOf, signedAt, unsignedAt, tileOf};
 
 // A word as a signed number of 32 bits.
 pub enum SignedArgument {
@@ -21,7 +23,9 @@ pub enum TileArgument {
 }
 
 // The word at a place as a signed number, where there is such a word and it fits.
-pub fn signed_at(words: &[i64], at: usize) -> SignedArgument {
+pub fn signed_at(words: &[i64], at: usize) -> SignedArgument
+    ensures { λ r. ⌜ r ≡ signedAt (now (words .entry)) at ⌝ }
+{
     if at >= words.len() {
         return SignedArgument::Not;
     }
@@ -29,7 +33,9 @@ pub fn signed_at(words: &[i64], at: usize) -> SignedArgument {
 }
 
 // The word at a place as an unsigned number, where there is such a word and it fits.
-pub fn unsigned_at(words: &[i64], at: usize) -> UnsignedArgument {
+pub fn unsigned_at(words: &[i64], at: usize) -> UnsignedArgument
+    ensures { λ r. ⌜ r ≡ unsignedAt (now (words .entry)) at ⌝ }
+{
     if at >= words.len() {
         return UnsignedArgument::Not;
     }
@@ -37,7 +43,9 @@ pub fn unsigned_at(words: &[i64], at: usize) -> UnsignedArgument {
 }
 
 // The words at two places as a tile.
-pub fn tile_at(words: &[i64], x_at: usize, y_at: usize) -> TileArgument {
+pub fn tile_at(words: &[i64], x_at: usize, y_at: usize) -> TileArgument
+    ensures { λ r. ⌜ r ≡ tileOf (signedAt (now (words .entry)) «x_at») (signedAt (now (words .entry)) «y_at») ⌝ }
+{
     let SignedArgument::Is(x) = signed_at(words, x_at) else {
         return TileArgument::Not;
     };
@@ -48,7 +56,9 @@ pub fn tile_at(words: &[i64], x_at: usize, y_at: usize) -> TileArgument {
 }
 
 // A word as a signed number, where it fits.
-fn signed(word: i64) -> SignedArgument {
+fn signed(word: i64) -> SignedArgument
+    ensures { λ r. ⌜ r ≡ signedOf word ⌝ }
+{
     if word < -2147483648 {
         return SignedArgument::Not;
     }
@@ -59,7 +69,9 @@ fn signed(word: i64) -> SignedArgument {
 }
 
 // A word as an unsigned number, where it fits.
-fn unsigned(word: i64) -> UnsignedArgument {
+fn unsigned(word: i64) -> UnsignedArgument
+    ensures { λ r. ⌜ r ≡ unsignedOf word ⌝ }
+{
     if word < 0 {
         return UnsignedArgument::Not;
     }

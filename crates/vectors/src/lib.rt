@@ -5,7 +5,6 @@
 mod answer;
 mod digest;
 mod lists;
-mod question;
 mod report;
 mod verdict;
 mod words;

@@ -1,9 +1,7 @@
 // One vector against the crates: its question is asked, and the answer is compared with the one that the line expects.
 
 use crate::lists;
-use crate::question::answered;
 use questions::answer::Laid;
-use questions::answer::lay;
 use questions::arguments::UnsignedArgument;
 use questions::arguments::unsigned_at;
 
@@ -30,7 +28,7 @@ fn laid(kind: u32, words: &[i64], numbers: &mut [i64]) -> Laid {
     match kind {
         10..=14 => lists::answered(kind, words, numbers),
         20..=29 => map_questions::answered(kind, words, numbers),
-        _ => lay(answered(kind, words), numbers),
+        _ => tile_questions::answered(kind, words, numbers),
     }
 }
 

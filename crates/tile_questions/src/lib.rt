@@ -1,9 +1,11 @@
-// The questions: for each kind, which arguments its words are, which call it makes, and which numbers its answer is.
+// The questions about tiles, directions, grids and counts: for each kind, which arguments its words are, which call it makes, and which numbers its answer is.
 
 use conversions::GridAnswer;
 use conversions::GridPair;
 use hex::Direction;
 use questions::answer::Asked;
+use questions::answer::Laid;
+use questions::answer::lay;
 use questions::answer::one;
 use questions::answer::three;
 use questions::answer::tile_answer;
@@ -16,9 +18,7 @@ use questions::arguments::UnsignedArgument;
 use questions::arguments::signed_at;
 use questions::arguments::tile_at;
 use questions::arguments::unsigned_at;
-
-// Every kind has a number below this: as many kinds are counted.
-pub(crate) const KINDS: u32 = 64;
+ghost use Rattle.questions.specs.Answers.{Lays};
 
 // Two words as a pair of a grid.
 enum PairArgument {
@@ -26,8 +26,15 @@ enum PairArgument {
     Not,
 }
 
-// Asks the question that the words begin with.
-pub(crate) fn answered(kind: u32, words: &[i64]) -> Asked {
+// Asks the question that the words begin with, and lays out its answer.
+pub fn answered(kind: u32, words: &[i64], numbers: &mut [i64]) -> Laid
+    ensures { λ r. ⌜ Lays (now (numbers .entry)) r (now (numbers .exit)) ⌝ }
+{
+    lay(asked(kind, words), numbers)
+}
+
+// The answer of each kind.
+fn asked(kind: u32, words: &[i64]) -> Asked {
     match kind {
         1 => distance(words),
         2 => to_offset(words),
