@@ -42,13 +42,13 @@ impl Questions {
         let places = Places::new(centre, radius);
         let mut tiles: Vec<Hex> = places.bounds.all_coords().collect();
         tiles.extend(centre.ring(radius + 1));
-        let widest = 2 * radius + 1;
+        let past = 2 * radius + 1;
         Self {
             places,
             tiles,
             indices: (0..Hex::range_count(radius)).collect(),
-            at: (0..=widest)
-                .flat_map(|row| (0..=widest).map(move |column| [row, column]))
+            at: (0..=past)
+                .flat_map(|row| (0..=past).map(move |column| [row, column]))
                 .collect(),
         }
     }
@@ -65,9 +65,9 @@ impl Questions {
         tiles.extend(places.bounds.corners());
         tiles.extend(indices.iter().filter_map(|&index| places.tile_of(index)));
         let mut at: Vec<Place> = tiles.iter().filter_map(|&t| places.place_of(t)).collect();
-        let widest = 2 * radius;
-        at.extend([[0, radius + 1], [radius, widest + 1], [widest, radius + 1]]);
-        at.extend([[widest + 1, 0], [u32::MAX, 0], [0, u32::MAX]]);
+        let last = 2 * radius;
+        at.extend([[0, radius + 1], [radius, last + 1], [last, radius + 1]]);
+        at.extend([[last + 1, 0], [u32::MAX, 0], [0, u32::MAX]]);
         tiles.extend(HexBounds::new(centre, radius + 1).corners());
         tiles.extend(FAR.map(Hex::from_array));
         Self {
@@ -218,6 +218,11 @@ pub fn differences(sheet: &mut Sheet) {
          The paper refuses it with number 2 and answers zeros.",
     );
     refused(sheet, Hex::ZERO, RADIUS + 1);
+    wrapped(sheet);
+}
+
+/// Writes that the crate takes a tile at one end of 32 bits for a neighbour of one at the other.
+fn wrapped(sheet: &mut Sheet) {
     sheet.comment(
         "21 is of map, where a difference passes 32 bits: the crate wraps round and says yes.\n\
          The paper takes differences in whole numbers and says no.",
