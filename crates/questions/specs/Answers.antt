@@ -39,3 +39,8 @@ pub record Lays (entry : List ℤ) (r : Laid) (exit : List ℤ) : Type 0 where
   pub asked : Asked
   pub said : r ≡ laidOf asked
   pub holds : exit ≡ laidOut asked entry
+
+-- The promise of a call whose questions all take so many words, the kind included, and whose answer may be of any length: it says that number, or that the words could not be read.
+abbrev pub Takes : ℕ → Laid → Type 0
+Takes words (Laid.Numbers took length) = took ≡ words
+Takes words Laid.Unreadable = Unit

@@ -1,6 +1,5 @@
 // One vector against the crates: its question is asked, and the answer is compared with the one that the line expects.
 
-use crate::lists;
 use questions::answer::Laid;
 use questions::arguments::UnsignedArgument;
 use questions::arguments::unsigned_at;
@@ -26,7 +25,7 @@ pub(crate) fn judged(words: &[i64], numbers: &mut [i64]) -> Verdict {
 // Asks the question, and lays out its answer: of a list, of a map, or of any other kind.
 fn laid(kind: u32, words: &[i64], numbers: &mut [i64]) -> Laid {
     match kind {
-        10..=14 => lists::answered(kind, words, numbers),
+        10..=14 => list_questions::answered(kind, words, numbers),
         20..=29 => map_questions::answered(kind, words, numbers),
         _ => tile_questions::answered(kind, words, numbers),
     }

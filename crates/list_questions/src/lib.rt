@@ -1,6 +1,8 @@
-// The questions that are answered by a list of tiles: one set of arguments for all of their kinds, a run that is lent to the call, and the answer laid out from the run.
+// The questions about lists, which are answered by a list of tiles: one set of arguments for all of their kinds, a run that is lent to the call, and the answer laid out from the run.
 
-use crate::digest::digest_of;
+mod digest;
+
+use digest::digest_of;
 use hex::Direction;
 use hex::Tile;
 use questions::answer::Laid;
@@ -12,6 +14,7 @@ use questions::arguments::UnsignedArgument;
 use questions::arguments::tile_at;
 use questions::arguments::unsigned_at;
 use runs::ListAnswer;
+ghost use Rattle.questions.specs.Answers.{Takes};
 
 // How many words the question of a list takes, the kind included.
 const TOOK: usize = 8;
@@ -42,7 +45,9 @@ enum ListArguments {
 }
 
 // Asks the question of a list that the words begin with, and lays out its answer.
-pub(crate) fn answered(kind: u32, words: &[i64], numbers: &mut [i64]) -> Laid {
+pub fn answered(kind: u32, words: &[i64], numbers: &mut [i64]) -> Laid
+    ensures { λ r. ⌜ Takes 8 r ⌝ }
+{
     let ListArguments::Is(question) = arguments(words) else {
         return Laid::Unreadable;
     };
@@ -116,7 +121,9 @@ fn listed(kind: u32, question: ListQuestion, run: &mut [i32]) -> ListAnswer {
 }
 
 // Lends the run to the call, and lays out the answer: the refusal number, the number of tiles, and the run, or its digest where the run is long.
-fn laid(kind: u32, question: ListQuestion, run: &mut [i32], numbers: &mut [i64]) -> Laid {
+fn laid(kind: u32, question: ListQuestion, run: &mut [i32], numbers: &mut [i64]) -> Laid
+    ensures { λ r. ⌜ Takes 8 r ⌝ }
+{
     head(listed(kind, question, run), numbers);
     if run.len() > BY_ENTRY {
         put(numbers, 2, whole(digest_of(run)));

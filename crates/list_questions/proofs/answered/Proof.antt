@@ -2,8 +2,8 @@
 use native.Mathlib.Omega.{arith}
 use lib.ListN.{length-take}
 use borrow.Author.Needs.{needs}
-use Rattle.vectors.proofs.lists.answered.Statement.{statement}
-use Rattle.vectors.proofs.lists.answered.Tie as tie
+use Rattle.list_questions.proofs.answered.Statement.{statement}
+use Rattle.list_questions.proofs.answered.Tie as tie
 
 arguments-requires : tie.Need-arguments-requires
 arguments-requires c κs = search needs

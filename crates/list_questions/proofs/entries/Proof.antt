@@ -3,8 +3,8 @@ use Prim.Native.Nat.{_≤_, _-_}
 use mathlib.Core.Path.{_≡_}
 use lib.ListN.{length}
 use borrow.Author.Needs.{needs}
-use Rattle.vectors.proofs.lists.entries.Statement.{statement}
-use Rattle.vectors.proofs.lists.entries.Tie as tie
+use Rattle.list_questions.proofs.entries.Statement.{statement}
+use Rattle.list_questions.proofs.entries.Tie as tie
 
 abbrev Inv-loop : tie.InvT-loop
 Inv-loop run numbers₀ i₀ numbers i = (i ≤ length run) × (length numbers ≡ length numbers₀)

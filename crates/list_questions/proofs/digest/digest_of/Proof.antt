@@ -2,8 +2,8 @@
 use Prim.Native.Nat.{_≤_, _-_}
 use lib.ListN.{length}
 use borrow.Author.Needs.{needs}
-use Rattle.vectors.proofs.digest.digest_of.Statement.{statement}
-use Rattle.vectors.proofs.digest.digest_of.Tie as tie
+use Rattle.list_questions.proofs.digest.digest_of.Statement.{statement}
+use Rattle.list_questions.proofs.digest.digest_of.Tie as tie
 
 abbrev Inv-loop : tie.InvT-loop
 Inv-loop run digest₀ i₀ digest i = i ≤ length run
