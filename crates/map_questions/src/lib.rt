@@ -1,6 +1,7 @@
 // The questions about maps: for each kind, which arguments its words are, which call of `storage` it makes, and which numbers its answer is.
 // The three words after the kind are the map in every question: the x and y of its centre, and its radius.
 
+use hex::Direction;
 use questions::answer::Asked;
 use questions::answer::Laid;
 use questions::answer::lay;
@@ -12,11 +13,10 @@ use questions::arguments::TileArgument;
 use questions::arguments::UnsignedArgument;
 use questions::arguments::tile_at;
 use questions::arguments::unsigned_at;
-use hex::Direction;
 use storage::Index;
 use storage::IndexAnswer;
-use storage::NO_INDEX;
 use storage::Map;
+use storage::NO_INDEX;
 use storage::RowColumn;
 use storage::RowColumnAnswer;
 ghost use Rattle.questions.specs.Answers.{Lays};

@@ -6,13 +6,15 @@ use mathlib.Core.List.{List}
 use Prim.Native.Nat.{ℕ, _+_, _%_, _<_, _≤_}
 use native.Mathlib.Omega.{arith}
 use lib.ListN.{getD}
+use Rattle.hex.specs.Answers.{Told, accepted, refusedTile}
 use Rattle.hex.specs.Limits.{radiusLimit}
 use Rattle.hex.specs.Tiles.{neighborOf, distanceOf}
 use Rattle.hex.specs.declared.Tile.{Tile}
 use Rattle.hex.proofs.Beside.{Leads, one-apart, six-neighbors}
 use Rattle.hex.proofs.Metric.{neighbor-at-one}
+use Rattle.hex.proofs.Tells.{One}
 use Rattle.hex.proofs.Turning.{opposite-leads-back}
-use Rattle.storage.specs.Hexmod.{index, indexIn, indexOf, toHexmod}
+use Rattle.storage.specs.Hexmod.{index, indexIn, indexOf, toHexmod, FromHexmod}
 use Rattle.storage.specs.Leaves.{tileAtIndex, besideIn, nearIn}
 use Rattle.storage.specs.Maps.{mapRefusal, ofMap, areaOf}
 use Rattle.storage.specs.Neighbors.{noIndex, entryOf, SixNeighbors}
@@ -21,7 +23,7 @@ use Rattle.storage.proofs.Back.{index-below, one-index, tile-of-map, ti
 use Rattle.storage.proofs.Besides.{beside-off, beside-on, some-on}
 use Rattle.storage.proofs.Ending.{OneHas, from-fine}
 use Rattle.storage.proofs.Maps.{fine, area-small}
-use Rattle.storage.proofs.Neighbors.{neighbor-found, entry-of-beside}
+use Rattle.storage.proofs.Neighbors.{one-told, neighbor-found, entry-of-beside}
 
 -- A tile is found back from its index.
 module _ (map : Map) where
@@ -70,10 +72,23 @@ module _ (map : Map) (small : map .radius ≤ radiusLimit) where
       ∙ ap (indexIn map) back
       ∙ has
 
+-- The way back from an index below the area tells the tile of its strip.
+module _ (map : Map) (i : ℕ) (z : mapRefusal map ≡ 0) (h : i < areaOf (map .radius)) where
+  goes-back : FromHexmod map (index i) (accepted (tileAtIndex map i))
+  goes-back = from-fine map (indexOf map) (index i) z (the-tile-of map (index i) h (tileAtIndex map i) refl)
+
+  pub found-tile : (t : Tile) → FromHexmod map (index i) (accepted t) → t ≡ tileAtIndex map i
+  unfolding One
+  found-tile t p = ap (λ (v : Told Tile). v .value) (one-told map (index i) _ _ p goes-back)
+
+  pub never-lost : (n : ℕ) → 0 < n → FromHexmod map (index i) (refusedTile n) → ⊥
+  unfolding One
+  never-lost n l p = let k : n ≡ 0 = ap (λ (v : Told Tile). v .number) (one-told map (index i) _ _ p goes-back) in omega arith
+
 -- The row of six has them.
 pub entries-near : (map : Map) (i : ℕ) (entries : List ℕ) → mapRefusal map ≡ 0 → i < areaOf (map .radius) → SixNeighbors map (index i) entries → (d : ℕ) → d < 6 → getD entries d 0 ≡ nearIn map i d
 unfolding nearIn
 entries-near map i entries z h s d l =
     let t = tileAtIndex map i in
-    let k = neighbor-found map (index i) d t (from-fine map (indexOf map) (index i) z (the-tile-of map (index i) h t refl)) (toHexmod map (neighborOf t d)) refl in
+    let k = neighbor-found map (index i) d t (goes-back map i z h) (toHexmod map (neighborOf t d)) refl in
     s .each d l (toHexmod map (neighborOf t d)) k ∙ sym (entry-of-beside map t d z)

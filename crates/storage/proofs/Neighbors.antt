@@ -30,7 +30,7 @@ use Rattle.storage.proofs.RoundTrip.{index-there-and-back}
 
 module _ (map : Map) (i : Index) where
   -- The way back tells one thing.
-  one-told : One (FromHexmod map i)
+  pub one-told : One (FromHexmod map i)
   one-told = from-one map (indexOf map) (one-index map) i
 
   not-both : (t : Tile) (n : ℕ) → 0 < n → FromHexmod map i (accepted t) → FromHexmod map i (refusedTile n) → ⊥

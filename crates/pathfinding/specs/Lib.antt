@@ -1,0 +1,2 @@
+-- The definitions of what a route promises, and of what the way down the ranks answers.
+pub mod Ways
