@@ -7,9 +7,9 @@ use crate::sheet::{RING_COUNT, Sheet};
 /// multiple of 2 or 3, so that every direction and sense is met.
 const STRIDE: usize = 17;
 
-/// Says whether a rule names the line: it has small ranges, or a digest, or the
-/// count of a range beyond those that are asked one by one.
-fn named(words: &[i64]) -> bool {
+/// Says whether a rule names the line of a list or a count: it has small ranges, or a
+/// digest, or the count of a range beyond those that are asked one by one.
+fn list_named(words: &[i64]) -> bool {
     if words[0] >= RING_COUNT {
         return words[1] <= 3 || words[1] > 60;
     }
@@ -17,11 +17,28 @@ fn named(words: &[i64]) -> bool {
     small || words[7] > SHOWN as i64
 }
 
+/// Says whether a rule names the line of a map: it has a small radius or the largest.
+fn map_named(words: &[i64]) -> bool {
+    words[3] <= 3 || words[3] == 60
+}
+
 /// The lines of the sheet of lists and counts that are kept, with all its comments.
 pub fn of_lists(lists: &Sheet) -> Sheet {
-    let mut sheet = Sheet::new("A part of the answers on lists, chosen by fixed rules.");
+    let heading = "A part of the answers on lists, chosen by fixed rules.";
+    kept(lists, heading, list_named)
+}
+
+/// The lines of the sheet of maps that are kept, with all its comments.
+pub fn of_maps(maps: &Sheet) -> Sheet {
+    let heading = "A part of the answers on maps, chosen by fixed rules.";
+    kept(maps, heading, map_named)
+}
+
+/// The lines of a sheet that a rule names, and of the others each one after a fixed number.
+fn kept(whole: &Sheet, heading: &str, named: fn(&[i64]) -> bool) -> Sheet {
+    let mut sheet = Sheet::new(heading);
     let mut passed = 0;
-    for line in lists.text().lines() {
+    for line in whole.text().lines() {
         if let Some(comment) = line.strip_prefix("# ") {
             sheet.comment(comment);
             continue;

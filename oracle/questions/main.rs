@@ -10,7 +10,9 @@ mod doubled;
 mod excerpt;
 mod generator;
 mod mapping;
+mod maps;
 mod offset;
+mod places;
 mod rings;
 mod samples;
 mod sheet;
@@ -50,6 +52,18 @@ fn module3() -> Sheet {
     sheet
 }
 
+/// The questions about maps that the paper accepts, and those that the crate has no answer
+/// to because what is asked about is not of the map.
+fn module4() -> Sheet {
+    let mut sheet = Sheet::new(
+        "Answers of the crate hexx 0.25.0 on maps.\n\
+         The map is three words: x and y of its centre, and its radius.\n\
+         Where the crate's map has no such tile or place, the answer is refusal 5 and zeros.",
+    );
+    maps::ask(&mut sheet);
+    sheet
+}
+
 /// The questions on which the paper decides against the crate.
 fn differences() -> Sheet {
     let mut sheet = Sheet::new(
@@ -62,6 +76,7 @@ fn differences() -> Sheet {
     doubled::differences(&mut sheet);
     rings::differences(&mut sheet);
     counts::differences(&mut sheet);
+    maps::differences(&mut sheet);
     sheet
 }
 
@@ -69,10 +84,14 @@ fn differences() -> Sheet {
 fn write_all(folder: &Path) {
     let module3 = module3();
     let sample3 = excerpt::of_lists(&module3);
+    let module4 = module4();
+    let sample4 = excerpt::of_maps(&module4);
     for (name, sheet) in [
         ("module12.txt", module12()),
         ("module3.txt", module3),
         ("sample3.txt", sample3),
+        ("module4.txt", module4),
+        ("sample4.txt", sample4),
         ("differences.txt", differences()),
     ] {
         if let Err(cause) = std::fs::write(folder.join(name), sheet.text()) {
@@ -87,6 +106,7 @@ fn main() {
         stop("the folder to write to is missing");
     };
     mapping::check();
-    println!("The mapping of numbers and turning senses holds.");
+    places::check();
+    println!("The mapping of numbers and turning senses holds, and so does the order of the maps.");
     write_all(Path::new(&folder));
 }

@@ -1,8 +1,7 @@
 //! Questions about the lists of rings, ring edges, wedges, corner wedges and spirals.
 
-use crate::generator::Generator;
 use crate::mapping::{edge, edge_clockwise, ring_clockwise, vertex};
-use crate::samples::{LIMIT, random};
+use crate::samples::{Centres, LIMIT};
 use crate::sheet::{ACCEPTED, CORNER_WEDGE, RING, RING_EDGE, SPIRAL, Sheet, WEDGE};
 use crate::stop;
 use hexx::Hex;
@@ -154,63 +153,36 @@ fn turned(kind: i64, (first, last): (u32, u32)) -> Vec<List> {
         .collect()
 }
 
-/// Gives out centres in turn, with how many entries the run has too many. The turn
-/// of the centres has seven places, so it meets every direction and sense.
-struct Centres {
-    generator: Generator,
-    given: usize,
+/// Asks about the middle with both lengths of the run, and about one more centre.
+fn near(centres: &mut Centres, sheet: &mut Sheet, kind: i64, ranges: (u32, u32)) {
+    for list in turned(kind, ranges) {
+        list.line(sheet, Hex::ZERO, 0);
+        list.line(sheet, Hex::ZERO, 2);
+    }
+    far(centres, sheet, kind, ranges);
 }
 
-impl Centres {
-    fn next(&mut self) -> (Hex, usize) {
-        let centre = match self.given % 7 {
-            0 => Hex::ZERO,
-            1 => Hex::new(LIMIT, LIMIT),
-            2 => Hex::new(LIMIT, -LIMIT),
-            3 => random(&mut self.generator, 50),
-            4 => Hex::new(-LIMIT, LIMIT),
-            5 => Hex::new(-LIMIT, -LIMIT),
-            _ => random(&mut self.generator, LIMIT),
-        };
-        let over = self.given / 7 % 2 * 2;
-        self.given += 1;
-        (centre, over)
-    }
-
-    /// Asks about the middle with both lengths of the run, and about one more centre.
-    fn near(&mut self, sheet: &mut Sheet, kind: i64, ranges: (u32, u32)) {
-        for list in turned(kind, ranges) {
-            list.line(sheet, Hex::ZERO, 0);
-            list.line(sheet, Hex::ZERO, 2);
-        }
-        self.far(sheet, kind, ranges);
-    }
-
-    /// Asks about one centre.
-    fn far(&mut self, sheet: &mut Sheet, kind: i64, ranges: (u32, u32)) {
-        for list in turned(kind, ranges) {
-            let (centre, over) = self.next();
-            list.line(sheet, centre, over);
-        }
+/// Asks about one centre. The length of the run changes with each turn of the centres.
+fn far(centres: &mut Centres, sheet: &mut Sheet, kind: i64, ranges: (u32, u32)) {
+    for list in turned(kind, ranges) {
+        let over = centres.turns() % 2 * 2;
+        list.line(sheet, centres.next(), over);
     }
 }
 
 pub fn ask(sheet: &mut Sheet) {
-    let centres = &mut Centres {
-        generator: Generator::new(0x0415_7000_0000_0005),
-        given: 0,
-    };
-    for (kind, name, far) in [
+    let centres = &mut Centres::new(0x0415_7000_0000_0005);
+    for (kind, name, longer) in [
         (RING, "10 ring", FAR_RINGS),
         (RING_EDGE, "11 ring edge", FAR_EDGES),
     ] {
         sheet.comment(&format!(
             "{name}: {kind} x y range range direction sense room number tiles run"
         ));
-        (0..=12).for_each(|range| centres.near(sheet, kind, (range, range)));
-        far.map(|range| centres.far(sheet, kind, (range, range)));
+        (0..=12).for_each(|range| near(centres, sheet, kind, (range, range)));
+        longer.map(|range| far(centres, sheet, kind, (range, range)));
     }
-    for (kind, name, far) in [
+    for (kind, name, longer) in [
         (WEDGE, "12 wedge", FAR_WEDGES),
         (CORNER_WEDGE, "13 corner wedge", FAR_CORNERS),
         (SPIRAL, "14 spiral", FAR_SPIRALS),
@@ -218,9 +190,9 @@ pub fn ask(sheet: &mut Sheet) {
         sheet.comment(&format!(
             "{name}: {kind} x y first last direction sense room number tiles run"
         ));
-        NEAR.map(|ranges| centres.near(sheet, kind, ranges));
-        EMPTY.map(|ranges| centres.near(sheet, kind, ranges));
-        far.map(|ranges| centres.far(sheet, kind, ranges));
+        NEAR.map(|ranges| near(centres, sheet, kind, ranges));
+        EMPTY.map(|ranges| near(centres, sheet, kind, ranges));
+        longer.map(|ranges| far(centres, sheet, kind, ranges));
     }
 }
 

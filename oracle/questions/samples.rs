@@ -38,3 +38,38 @@ pub fn within_limit(tile: Hex) -> bool {
     let allowed = -LIMIT..=LIMIT;
     allowed.contains(&tile.x) && allowed.contains(&tile.y)
 }
+
+/// Gives out centres in turn: the middle, the corners of the limit, and random ones near
+/// and far. The turn has seven places, so it meets every direction and sense.
+pub struct Centres {
+    generator: Generator,
+    given: usize,
+}
+
+impl Centres {
+    pub fn new(seed: u64) -> Self {
+        Self {
+            generator: Generator::new(seed),
+            given: 0,
+        }
+    }
+
+    /// How many whole turns were given out.
+    pub fn turns(&self) -> usize {
+        self.given / 7
+    }
+
+    pub fn next(&mut self) -> Hex {
+        let place = self.given % 7;
+        self.given += 1;
+        match place {
+            0 => Hex::ZERO,
+            1 => Hex::new(LIMIT, LIMIT),
+            2 => Hex::new(LIMIT, -LIMIT),
+            3 => random(&mut self.generator, 50),
+            4 => Hex::new(-LIMIT, LIMIT),
+            5 => Hex::new(-LIMIT, -LIMIT),
+            _ => random(&mut self.generator, LIMIT),
+        }
+    }
+}

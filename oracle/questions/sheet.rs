@@ -19,9 +19,15 @@ pub const CORNER_WEDGE: i64 = 13;
 pub const SPIRAL: i64 = 14;
 pub const RING_COUNT: i64 = 15;
 pub const WEDGE_COUNT: i64 = 16;
+pub const IS_OF_MAP: i64 = 21;
+pub const TO_INDEX: i64 = 22;
+pub const FROM_INDEX: i64 = 23;
+pub const TO_ROW_COLUMN: i64 = 24;
+pub const FROM_ROW_COLUMN: i64 = 25;
 
-/// The refusal number of an accepted question.
+/// The refusal number of an accepted question, and of what is not of the map.
 pub const ACCEPTED: i64 = 0;
+pub const NOT_OF_MAP: i64 = 5;
 
 pub struct Sheet {
     text: String,

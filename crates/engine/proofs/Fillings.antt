@@ -8,7 +8,7 @@ use native.Mathlib.Omega.{arith}
 use lib.Dec.{ltb}
 use lib.ListN.{length, getD, set, length-set}
 use lib.Seq.{getD-set-same, getD-set-other}
-use borrow.Author.Tests.{lt-ltb, le-ltb, ltb-true}
+use borrow.Author.Tests.{eq-eqb, lt-ltb, le-ltb, ltb-true}
 use Rattle.paths.specs.Tables.{at, Right, Capped}
 use Rattle.paths.proofs.PlainWords.{right-marked}
 use Rattle.paths.proofs.ShortWalks.{least-capped}
@@ -19,7 +19,7 @@ use Rattle.storage.specs.declared.Map.{Map}
 use Rattle.storage.proofs.Maps.{fine, tiles-refused, tiles-fine}
 use Rattle.terrain.specs.Judging.{lengthsFit}
 use Rattle.terrain.specs.LandOfMap.{landOf}
-use Rattle.terrain.proofs.Judging.{lengths}
+use Rattle.terrain.proofs.Judging.{lengths, fit-by-table}
 use Rattle.terrain.proofs.Totals.{Efforts, capped, sums-below}
 use Rattle.engine.specs.Filling.{fits, FillsTotals}
 use Rattle.engine.specs.Leaves.{noTotal}
@@ -57,6 +57,11 @@ module _ (map : Map) (start efforts table : ℕ) where
       some-tiles : start < tilesOf map → Dec (mapRefusal map ≡ 0) → mapRefusal map ≡ 0
       some-tiles h (yes z) = z
       some-tiles h (no n) = absurd (omega (arith, tiles-refused map n))
+
+  pub fits-of : mapRefusal map ≡ 0 → efforts ≡ areaOf (map .radius) → table ≡ areaOf (map .radius) → start < areaOf (map .radius) → fits map start efforts table ≡ true
+  fits-of z e t h =
+      let a = tiles-fine map z in
+      sym (start-on (omega (arith, a, h))) ∙ sym (fit-by-table map efforts table (e ∙ sym a)) ∙ eq-eqb table (tilesOf map) (t ∙ sym a)
 
 -- The totals of the tiles below k stand in the table.
 pub record Written (a : ℕ) (H : List ℕ) (k : ℕ) (table : List ℕ) : Type 0 where

@@ -13,12 +13,13 @@ fn offer_of(totals: &[u32], from: usize, price: u64) -> u64
     requires { ⌜ price ≤ barred ⌝ }
     ensures { λ r. ⌜ r ≡ cond (ltb from (length (now (totals .entry)))) (cond (ltb 0 price) (getD (now (totals .entry)) from 0 + price) noWay) noWay ⌝ }
 {
-    if from < totals.len() {
-        if 0 < price {
-            return totals[from] as u64 + price;
-        }
+    if from >= totals.len() {
+        return limits::NO_WAY as u64;
     }
-    limits::NO_WAY as u64
+    if price == 0 {
+        return limits::NO_WAY as u64;
+    }
+    totals[from] as u64 + price
 }
 
 // The smaller of what was offered so far and what the tile with an index offers.

@@ -14,7 +14,13 @@ ghost use Rattle.terrain.specs.LandOfMap.{landOf};
 ghost use Rattle.field_of_movement.specs.Scanning.{Scans};
 
 // The lowest index at which the rule is broken, or the number of tiles.
-pub(crate) fn lowest_broken(map: Map, efforts: &[u16], start: usize, budget: u32, totals: &[u32]) -> usize
+pub(crate) fn lowest_broken(
+    map: Map,
+    efforts: &[u16],
+    start: usize,
+    budget: u32,
+    totals: &[u32],
+) -> usize
     requires { ⌜ mapRefusal map ≡ 0 ⌝ }
     requires { ⌜ length (now efforts) ≡ areaOf (map .radius) ⌝ }
     requires { ⌜ length (now totals) ≡ areaOf (map .radius) ⌝ }

@@ -1,22 +1,9 @@
-// An answer as numbers in a lent array: how it is laid out there, and how it is told, so that a person can read what the library says.
+// An answer as a person reads it: the numbers that are laid out in a lent array, printed.
 
 use libc::STDOUT_FILENO;
 
 // How many numbers of an answer are told: a long one must not bury the report.
 const SHOWN: usize = 12;
-
-// What became of a question whose answer is laid out: how many words it took, the kind included, and how many numbers its answer has.
-pub(crate) enum Laid {
-    Numbers(usize, usize),
-    Unreadable,
-}
-
-// Puts a number at a place of the answer. An answer that has no room for all its numbers differs from every one that a line expects.
-pub(crate) fn put(numbers: &mut [i64], at: usize, number: i64) {
-    if at < numbers.len() {
-        numbers[at] = number;
-    }
-}
 
 // Prints the first `length` of the numbers, each after a space, two dots in place of those past the twelfth, and the end of the line.
 pub(crate) fn print(numbers: &[i64], length: usize) {

@@ -3,10 +3,6 @@
 // A line whose answer is another one is told with the answer that the crates give, so that a question can be asked by leaving the answer out.
 
 mod answer;
-mod arguments;
-mod digest;
-mod lists;
-mod question;
 mod report;
 mod verdict;
 mod words;

@@ -1,8 +1,10 @@
 // The counts of a run, and the report that it prints.
 
 use crate::answer;
-use crate::question::KINDS;
 use libc::STDOUT_FILENO;
+
+// Every kind has a number below this: as many kinds are counted.
+const KINDS: u32 = 64;
 
 // Where the lines that have ended are counted. All counts stand in one array, so that one thing is lent from function to function.
 const LINES: usize = 0;

@@ -1,12 +1,8 @@
 // One vector against the crates: its question is asked, and the answer is compared with the one that the line expects.
 
-use crate::answer::Laid;
-use crate::answer::put;
-use crate::arguments::UnsignedArgument;
-use crate::arguments::unsigned_at;
-use crate::lists;
-use crate::question::Asked;
-use crate::question::answered;
+use questions::answer::Laid;
+use questions::arguments::UnsignedArgument;
+use questions::arguments::unsigned_at;
 
 // What a vector showed, with its kind, and where it differs how many numbers the answer has.
 pub(crate) enum Verdict {
@@ -26,23 +22,13 @@ pub(crate) fn judged(words: &[i64], numbers: &mut [i64]) -> Verdict {
     compared(kind, length, words, took, numbers)
 }
 
-// Asks the question, and lays out its answer: a list, or at most three numbers.
+// Asks the question, and lays out its answer: of a list, of a map, or of any other kind.
 fn laid(kind: u32, words: &[i64], numbers: &mut [i64]) -> Laid {
     match kind {
-        10..=14 => lists::answered(kind, words, numbers),
-        _ => lay(answered(kind, words), numbers),
+        10..=14 => list_questions::answered(kind, words, numbers),
+        20..=29 => map_questions::answered(kind, words, numbers),
+        _ => tile_questions::answered(kind, words, numbers),
     }
-}
-
-// Lays out an answer: as many of the three numbers as it has are its own.
-fn lay(asked: Asked, numbers: &mut [i64]) -> Laid {
-    let Asked::Answered(answer) = asked else {
-        return Laid::Unreadable;
-    };
-    put(numbers, 0, answer.first);
-    put(numbers, 1, answer.second);
-    put(numbers, 2, answer.third);
-    Laid::Numbers(answer.took, answer.length)
 }
 
 // The words after the question are the expected answer; one with more or fewer numbers differs.

@@ -1,0 +1,3 @@
+-- The definitions of words as arguments and of answers as numbers.
+pub mod Arguments
+pub mod Answers
