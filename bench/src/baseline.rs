@@ -57,3 +57,25 @@ pub fn range(radius: i64, efforts: &[u16], start: usize, budget: u32, totals: &m
         }
     }
 }
+
+/// What the neighbour rule wants at a tile: the smallest total beside it and the price of entering it.
+fn wanted(radius: i64, efforts: &[u16], start: usize, budget: u32, totals: &[u32], index: usize) -> u32 {
+    if index == start {
+        return 0;
+    }
+    if efforts[index] == BARRED {
+        return NO_WAY;
+    }
+    let (x, y) = tile_of(index, radius);
+    let beside = STEPS.iter().filter_map(|(dx, dy)| index_of(x + dx, y + dy, radius));
+    let smallest = beside.map(|next| totals[next]).filter(|total| *total != NO_WAY).min();
+    match smallest.map(|total| total as u64 + efforts[index] as u64 + 1) {
+        Some(sum) if sum <= budget as u64 => sum as u32,
+        _ => NO_WAY,
+    }
+}
+
+/// The lowest index at which a table breaks the neighbour rule.
+pub fn lowest_broken(radius: i64, efforts: &[u16], start: usize, budget: u32, totals: &[u32]) -> Option<usize> {
+    (0..totals.len()).find(|&index| totals[index] != wanted(radius, efforts, start, budget, totals, index))
+}
