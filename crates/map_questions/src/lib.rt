@@ -12,8 +12,10 @@ use questions::arguments::TileArgument;
 use questions::arguments::UnsignedArgument;
 use questions::arguments::tile_at;
 use questions::arguments::unsigned_at;
+use hex::Direction;
 use storage::Index;
 use storage::IndexAnswer;
+use storage::NO_INDEX;
 use storage::Map;
 use storage::RowColumn;
 use storage::RowColumnAnswer;
@@ -44,6 +46,9 @@ fn asked(kind: u32, words: &[i64]) -> Asked {
         23 => from_index(map, words),
         24 => to_row_column(map, words),
         25 => from_row_column(map, words),
+        26 => neighbor(map, words),
+        27 => one(4, storage::area(map) as i64),
+        28 => all_neighbors(map, words),
         _ => Asked::Unreadable,
     }
 }
@@ -108,4 +113,36 @@ fn from_row_column(map: Map, words: &[i64]) -> Asked {
         return Asked::Unreadable;
     };
     tile_answer(6, storage::from_row_column(map, RowColumn { row, column }))
+}
+
+// 26 map index direction | refusal index
+fn neighbor(map: Map, words: &[i64]) -> Asked {
+    let UnsignedArgument::Is(index) = unsigned_at(words, 4) else {
+        return Asked::Unreadable;
+    };
+    let UnsignedArgument::Is(direction) = unsigned_at(words, 5) else {
+        return Asked::Unreadable;
+    };
+    let told = storage::neighbor(map, Index(index), Direction(direction));
+    match told {
+        IndexAnswer::Found(beside) => two(6, 0, beside.0 as i64),
+        IndexAnswer::Refused(number) => two(6, number as i64, 0),
+    }
+}
+
+// 28 map index direction | entry of the row of six, -1 for none
+fn all_neighbors(map: Map, words: &[i64]) -> Asked {
+    let UnsignedArgument::Is(index) = unsigned_at(words, 4) else {
+        return Asked::Unreadable;
+    };
+    let UnsignedArgument::Is(direction) = unsigned_at(words, 5) else {
+        return Asked::Unreadable;
+    };
+    let entries = storage::all_neighbors(map, Index(index));
+    one(6, entry_number(entries[(direction % 6) as usize]))
+}
+
+// An entry as a number: -1 for none.
+fn entry_number(entry: u32) -> i64 {
+    if entry == NO_INDEX { -1 } else { entry as i64 }
 }

@@ -9,7 +9,7 @@ use native.Mathlib.Omega.{arith}
 use lib.IntN.{ℤ, pos, natAbs, _+ℤ_, _-ℤ_, _*ℤ_}
 use lib.ListN.{length, getD, set, length-set}
 use lib.Seq.{getD-set-same, getD-set-other}
-use borrow.Author.Tests.{leb-true}
+use borrow.Author.Tests.{le-leb, leb-true}
 use Rattle.whole.specs.Euclid.{quotient, remainder}
 use Rattle.whole.proofs.Differences.{by1, by2, by3, by6, linear, d-mul}
 use Rattle.whole.proofs.Euclid.{euclid, remainder-turn}
@@ -18,14 +18,14 @@ use Rattle.hex.specs.Directions.{stepOf}
 use Rattle.hex.specs.Limits.{coordinateLimit, radiusLimit}
 use Rattle.hex.specs.Tiles.{neighborOf, distanceOf}
 use Rattle.hex.specs.declared.Tile.{Tile}
-use Rattle.hex.proofs.Metric.{zero-same, same-zero, neighbor-at-one, step-small}
+use Rattle.hex.proofs.Metric.{triangle, zero-same, same-zero, neighbor-at-one, step-small}
 use Rattle.storage.specs.Hexmod.{shiftOf, indexIn}
-use Rattle.storage.specs.Leaves.{besideIn, farthest, strideOf}
-use Rattle.storage.specs.Maps.{ofMap, areaOf}
+use Rattle.storage.specs.Leaves.{Inside, besideIn, farthest, strideOf}
+use Rattle.storage.specs.Maps.{mapRefusal, ofMap, areaOf}
 use Rattle.storage.specs.Neighbors.{noIndex}
 use Rattle.storage.specs.declared.Map.{Map}
 use Rattle.storage.proofs.Back.{index-below}
-use Rattle.storage.proofs.Maps.{area-small, disc-of}
+use Rattle.storage.proofs.Maps.{fine, area-small, disc-of}
 use Rattle.storage.proofs.Strips.{Disc}
 
 -- (y + v - c) + s (x + u - b) is i + (v + s u) and whole turns, if (y - c) + s (x - b) is i and whole turns.
@@ -82,13 +82,19 @@ stride-small r d h = go r (stepOf d .0) (stepOf d .1) h (step-small d .0) (step-
     go r x y h p q = bound y (pos (shiftOf r) *ℤ x) q (times (shiftOf r) x p) (omega (arith, mul-le-mul-left r h))
 
 -- A tile of a map is within reach of the coordinate limit.
-pub not-far : (map : Map) (t : Tile) → natAbs (map .centre .x) ≤ coordinateLimit → natAbs (map .centre .y) ≤ coordinateLimit → map .radius ≤ radiusLimit → ofMap map t ≡ true → (natAbs (t .x) ≤ farthest) × (natAbs (t .y) ≤ farthest)
-not-far map t hx hy hr h =
+pub not-far : (map : Map) (t : Tile) → mapRefusal map ≡ 0 → ofMap map t ≡ true → (natAbs (t .x) ≤ farthest) × (natAbs (t .y) ≤ farthest)
+not-far map t z h =
+    let f = fine map z in
     let d = disc-of map t h in
-    (go (t .x) (map .centre .x) hx (omega (arith, d .disc-x)), go (t .y) (map .centre .y) hy (omega (arith, d .disc-y)))
+    (go (t .x) (map .centre .x) (f .near-x) (omega (arith, d .disc-x, f .small)), go (t .y) (map .centre .y) (f .near-y) (omega (arith, d .disc-y, f .small)))
   where
     go : (z c : ℤ) → natAbs c ≤ coordinateLimit → natAbs (z -ℤ c) ≤ radiusLimit → natAbs z ≤ farthest
     go = by2 _ (simp dif-b (omega arith))
+
+-- A tile that does not lie on the rim has all its neighbours on the map.
+pub inside-stays : (map : Map) (t : Tile) (d : ℕ) → Inside map t → true ≡ ofMap map (neighborOf t d)
+unfolding ofMap
+inside-stays map t d h = sym (le-leb (distanceOf (map .centre) (neighborOf t d)) (map .radius) (omega (arith, triangle (map .centre) t (neighborOf t d), neighbor-at-one t d)))
 
 -- What an entry is, by whether the neighbour is of the map.
 module _ (map : Map) (t : Tile) (d : ℕ) where

@@ -1,15 +1,16 @@
 -- What this crate's private functions answer. No public promise of this crate cites this file: `proofs/Strips` shows that the tile of a strip is the tile that the promises name, and
 -- `proofs/Near` that what stands beside it is the neighbour.
-use mathlib.Core.Bool.{cond}
-use Prim.Native.Nat.{ℕ, _+_, _-_, _*_, _/_, _%_}
+use mathlib.Core.Path.{_≡_}
+use mathlib.Core.Bool.{true, cond}
+use Prim.Native.Nat.{ℕ, _+_, _-_, _*_, _/_, _%_, _<_}
 use lib.Dec.{leb}
 use lib.IntN.{ℤ, pos, _+ℤ_, _-ℤ_, _*ℤ_}
 use Rattle.hex.specs.Directions.{stepOf}
 use Rattle.hex.specs.Limits.{coordinateLimit, radiusLimit}
-use Rattle.hex.specs.Tiles.{tile, neighborOf}
+use Rattle.hex.specs.Tiles.{tile, neighborOf, distanceOf}
 use Rattle.hex.specs.declared.Tile.{Tile}
 use Rattle.storage.specs.Hexmod.{shiftOf, indexIn}
-use Rattle.storage.specs.Maps.{ofMap}
+use Rattle.storage.specs.Maps.{mapRefusal, ofMap}
 use Rattle.storage.specs.Neighbors.{noIndex}
 use Rattle.storage.specs.declared.Map.{Map}
 
@@ -29,6 +30,16 @@ tileAtIndex map i = inStrip map ((i + map .radius) / shiftOf (map .radius)) ((i 
 -- A tile of a map lies no farther than this from 0 on either axis.
 abbrev pub farthest : ℕ
 farthest = coordinateLimit + radiusLimit
+
+-- A tile of a map that is fine, and its index.
+pub record OnMap (map : Map) (t : Tile) (i : ℕ) : Type 0 where
+  pub fine : mapRefusal map ≡ 0
+  pub of : ofMap map t ≡ true
+  pub has : i ≡ indexIn map t
+
+-- A tile that does not lie on the map's rim: all its neighbours are of the map.
+abbrev pub Inside : Map → Tile → Type 0
+Inside map t = distanceOf (map .centre) t < map .radius
 
 -- How far a step in a direction moves an index, before it is taken modulo the area.
 unfoldable pub strideOf : ℕ → ℕ → ℤ

@@ -12,21 +12,17 @@ ghost use lib.ListN.{length, getD};
 ghost use lib.IntN.{pos, natAbs, _+ℤ_};
 ghost use Rattle.whole.specs.Euclid.{remainder};
 ghost use Rattle.hex.specs.Tiles.{neighborOf};
-ghost use Rattle.hex.specs.Limits.{coordinateLimit, radiusLimit};
-ghost use Rattle.storage.specs.Hexmod.{indexIn};
-ghost use Rattle.storage.specs.Leaves.{besideIn, farthest, strideOf};
+ghost use Rattle.hex.specs.Limits.{radiusLimit};
+ghost use Rattle.storage.specs.Leaves.{OnMap, Inside, besideIn, farthest, strideOf};
 ghost use Rattle.storage.specs.Maps.{areaOf, ofMap};
 
-// The index of a tile's neighbour in a direction, or `NO_INDEX` where that is not of the map.
-pub(crate) fn beside(map: Map, tile: Tile, index: u32, direction: Direction) -> u32
-    requires { ⌜ natAbs (map .centre .x) ≤ coordinateLimit ⌝ }
-    requires { ⌜ natAbs (map .centre .y) ≤ coordinateLimit ⌝ }
-    requires { ⌜ map .radius ≤ radiusLimit ⌝ }
-    requires { ⌜ ofMap map tile ≡ true ⌝ }
-    requires { ⌜ index ≡ indexIn map tile ⌝ }
+// The index of a tile's neighbour in a direction, or `NO_INDEX` where that is not of the map. `inside` spares the test of a tile that is known not to lie on the rim.
+pub(crate) fn beside(map: Map, tile: Tile, index: u32, direction: Direction, inside: bool) -> u32
+    requires { ⌜ OnMap map tile index ⌝ }
+    requires { ⌜ (inside ≡ true → Inside map tile) ⌝ }
     ensures { λ r. ⌜ r ≡ besideIn map tile (direction .0) ⌝ }
 {
-    if !crate::is_of_map(map, next_tile(tile, direction)) {
+    if !stays(map, tile, direction, inside) {
         return NO_INDEX;
     }
     let radius = map.radius;
@@ -35,19 +31,29 @@ pub(crate) fn beside(map: Map, tile: Tile, index: u32, direction: Direction) -> 
 
 // The entries of all six directions.
 pub(crate) fn all_beside(map: Map, tile: Tile, index: u32) -> [u32; 6]
-    requires { ⌜ natAbs (map .centre .x) ≤ coordinateLimit ⌝ }
-    requires { ⌜ natAbs (map .centre .y) ≤ coordinateLimit ⌝ }
-    requires { ⌜ map .radius ≤ radiusLimit ⌝ }
-    requires { ⌜ ofMap map tile ≡ true ⌝ }
-    requires { ⌜ index ≡ indexIn map tile ⌝ }
+    requires { ⌜ OnMap map tile index ⌝ }
     ensures { λ r. ⌜ length r ≡ 6 ⌝ }
     ensures { λ r. ⌜ ((d : ℕ) → d < 6 → getD r d 0 ≡ besideIn map tile d) ⌝ }
 {
+    let inside = hex::distance(map.centre, tile) < map.radius as u64;
     let mut entries = [NO_INDEX; 6];
     for d in 0..6 {
-        entries[d] = beside(map, tile, index, Direction(d as u32));
+        entries[d] = beside(map, tile, index, Direction(d as u32), inside);
     }
     entries
+}
+
+// Does a step in a direction stay on the map?
+fn stays(map: Map, tile: Tile, direction: Direction, inside: bool) -> bool
+    requires { ⌜ natAbs (tile .x) ≤ farthest ⌝ }
+    requires { ⌜ natAbs (tile .y) ≤ farthest ⌝ }
+    requires { ⌜ (inside ≡ true → Inside map tile) ⌝ }
+    ensures { λ r. ⌜ r ≡ ofMap map (neighborOf tile (direction .0)) ⌝ }
+{
+    if inside {
+        return true;
+    }
+    crate::is_of_map(map, next_tile(tile, direction))
 }
 
 // The neighbour of a tile that is not at the end of 32 bits.

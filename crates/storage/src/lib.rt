@@ -123,7 +123,7 @@ pub fn neighbor(map: Map, index: Index, direction: Direction) -> IndexAnswer
     match from_hexmod_coordinates(map, index) {
         TileAnswer::Refused(number) => IndexAnswer::Refused(number),
         TileAnswer::Found(tile) => {
-            let next = beside::beside(map, tile, index.0, direction);
+            let next = beside::beside(map, tile, index.0, direction, false);
             if next == NO_INDEX {
                 return IndexAnswer::Refused(refusals::NOT_OF_MAP);
             }

@@ -6,7 +6,6 @@ use Rattle.hex.specs.declared.TileAnswer.{TileAnswer}
 use Rattle.storage.specs.Hexmod.{indexOf, FromHexmod}
 use Rattle.storage.specs.declared.Index.{Index}
 use Rattle.storage.proofs.Ending.{from-found}
-use Rattle.storage.proofs.Maps.{fine}
 use Rattle.storage.proofs.Neighbors.{six-lost, six-found}
 use Rattle.storage.proofs.all_neighbors.Statement.{statement}
 use Rattle.storage.proofs.all_neighbors.Tie as tie
@@ -31,8 +30,7 @@ all-beside-requires : tie.Need-all-beside-requires
 all-beside-requires c κs =
     let t = c .before in
     let f = from-found _ (indexOf _) _ _ (told (t .before .before) (TileAnswer.Found _) (t .tile .given .1)) in
-    let k = fine _ (f .0) in
-    (k .near-x, (k .near-y, (k .small, (f .1 .0, sym (ap (λ (i : Index). i .0) (f .1 .1))))))
+    record { fine = f .0; of = f .1 .0; has = sym (ap (λ (i : Index). i .0) (f .1 .1)) }
 
 returns-2 : tie.Need-returns-2
 returns-2 c =

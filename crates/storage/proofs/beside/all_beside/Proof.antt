@@ -1,26 +1,35 @@
 -- `all_beside` meets its contract: before each turn the entries of the directions passed are filled.
-use mathlib.Core.Path.{refl}
-use Prim.Native.Nat.{_-_}
+use mathlib.Core.Path.{refl, subst}
+use Prim.Native.Nat.{ℕ, _-_, _<_}
 use native.Mathlib.Omega.{arith}
 use borrow.Author.Needs.{needs}
+use borrow.Author.Tests.{ltb-true}
 use Rattle.storage.proofs.Besides.{Filled, filled-next}
 use Rattle.storage.proofs.beside.all_beside.Statement.{statement}
 use Rattle.storage.proofs.beside.all_beside.Tie as tie
 
 abbrev Inv-loop : tie.InvT-loop
-Inv-loop map tile index entries₀ d₀ entries d = Filled map tile d entries
+Inv-loop map tile index inside entries₀ d₀ entries d = Filled map tile d entries
 
 abbrev μ-loop : tie.MeasureT-loop
-μ-loop map tile index entries₀ d₀ entries d = 6 - d
+μ-loop map tile index inside entries₀ d₀ entries d = 6 - d
+
+distance-requires : tie.Need-distance-requires Inv-loop μ-loop
+distance-requires c κs = tt
+
+cast-inside : tie.Need-cast-inside Inv-loop μ-loop
+cast-inside c = search needs
 
 loop-holds : tie.Need-loop-holds Inv-loop μ-loop
 loop-holds c = record { six = refl; below = λ d l. absurd (omega arith) }
 
-cast-t8 : tie.Need-cast-t8 Inv-loop μ-loop
-cast-t8 c = record { fits = omega (arith, c .loop-test .taken) }
+cast-t11 : tie.Need-cast-t11 Inv-loop μ-loop
+cast-t11 c = record { fits = omega (arith, c .loop-test .taken) }
 
 beside-requires : tie.Need-beside-requires Inv-loop μ-loop
-beside-requires c κs = c .before .before .pre
+beside-requires c κs =
+    let s = c .before .before .before in
+    (s .before .pre, λ e. subst (λ (n : ℕ). n < s .before .args .map .radius) (s .distance .ensures) (ltb-true _ _ e))
 
 mul-entries : tie.Need-mul-entries Inv-loop μ-loop
 mul-entries c = record { fits = omega (arith, c .before .loop-test .taken) }
@@ -46,8 +55,10 @@ all-beside-spec =
     (tie.spec
     Inv-loop
     μ-loop
+    distance-requires
+    cast-inside
     loop-holds
-    cast-t8
+    cast-t11
     beside-requires
     mul-entries
     array-write-entries
