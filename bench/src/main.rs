@@ -14,31 +14,36 @@ use timing::Times;
 /// The radii that are measured; the last is the largest that a map may have.
 const RADII: [i64; 3] = [15, 30, 60];
 
-/// How many rounds are timed on a map of the largest radius. Smaller maps get more, as they have fewer tiles.
-const ROUNDS: usize = 400;
+/// How often all maps of all radii are gone through, so that each is timed at several moments.
+const PASSES: usize = 8;
+
+/// How many tiles are gone through on a map in one pass: smaller maps get more rounds than large ones.
+const TILES: usize = 500_000;
+
+/// The maps of a radius and their times.
+type Measured = Vec<(Land, Times)>;
 
 fn main() {
-    let measured: Vec<Vec<(Land, Times)>> = RADII.iter().map(|radius| measure(*radius)).collect();
-    println!("every table of the library was the baseline's, and every verdict of the check that of a plain scan");
+    let mut measured = RADII.map(|radius| maps::all(radius).into_iter().map(|land| (land, Times::none())).collect());
+    all(&mut measured, |land, _| answers::compare(land));
+    println!("every table of the library is the baseline's, and every verdict of the check that of a plain scan");
+    for _ in 0..PASSES {
+        all(&mut measured, |land, times| times.take(land, TILES / land.efforts.len()));
+    }
     shares(&measured[RADII.len() - 1]);
     growth(&measured);
     stack_taken();
 }
 
-/// Compares the answers on the five maps of a radius, and takes their times.
-fn measure(radius: i64) -> Vec<(Land, Times)> {
-    let lands = maps::all(radius);
-    lands.iter().for_each(answers::compare);
-    let rounds = ROUNDS * (area(RADII[RADII.len() - 1]) / area(radius)) as usize;
-    let timed = lands.into_iter().map(|land| {
-        let times = timing::least(&land, rounds);
-        (land, times)
-    });
-    timed.collect()
+/// Does something with every map and its times.
+fn all(measured: &mut [Measured], act: fn(&Land, &mut Times)) {
+    for (land, times) in measured.iter_mut().flatten() {
+        act(land, times);
+    }
 }
 
 /// Prints the library's times as shares of the baseline's.
-fn shares(measured: &[(Land, Times)]) {
+fn shares(measured: &Measured) {
     println!();
     println!("time as a share of the baseline's, radius {}", measured[0].0.radius);
     println!("{:<14}{:>8}{:>8}", "map", "range", "check");
@@ -47,21 +52,22 @@ fn shares(measured: &[(Land, Times)]) {
     }
 }
 
-/// Prints how many times longer each call takes than on the same map of the smallest radius.
-fn growth(measured: &[Vec<(Land, Times)>]) {
+/// Prints how many times longer each call takes than on the map of that name of the smallest radius.
+fn growth(measured: &[Measured]) {
     println!();
     println!("time as a multiple of that at radius {}", RADII[0]);
-    println!("{:<14}{:<10}{}", "map", "", RADII.map(|radius| format!("{radius:>8}")).concat());
-    let row = |name: &str, call: &str, values: &dyn Fn(usize) -> f64| {
-        let cells: String = (0..RADII.len()).map(|at| format!("{:>8.1}", values(at) / values(0))).collect();
+    let radii: String = RADII[1..].iter().map(|radius| format!("{radius:>8}")).collect();
+    println!("{:<14}{:<10}{radii}", "map", "radius");
+    let row = |name: &str, call: &str, value: &dyn Fn(usize) -> f64| {
+        let cells: String = (1..RADII.len()).map(|at| format!("{:>8.1}", value(at) / value(0))).collect();
         println!("{name:<14}{call:<10}{cells}");
     };
     row("(tiles)", "", &|at| area(RADII[at]) as f64);
     for map in 0..measured[0].len() {
         let name = measured[0][map].0.name;
         row(name, "range", &|at| measured[at][map].1.range);
-        row(name, "check", &|at| measured[at][map].1.check);
-        row(name, "baseline", &|at| measured[at][map].1.baseline);
+        row("", "check", &|at| measured[at][map].1.check);
+        row("", "baseline", &|at| measured[at][map].1.baseline);
     }
 }
 
@@ -69,6 +75,7 @@ fn growth(measured: &[Vec<(Land, Times)>]) {
 fn stack_taken() {
     println!();
     println!("stack in bytes, from the caller's stack pointer down");
+    println!("{:<14}{:>8}{:>8}", "radius", "range", "check");
     for radius in RADII {
         let land = &maps::all(radius)[0];
         let mut totals = vec![0; land.efforts.len()];
@@ -78,6 +85,6 @@ fn stack_taken() {
         let check = stack::taken_by(|| {
             library::check(land, u32::MAX, &totals, &mut []);
         });
-        println!("radius {radius:<7}range {range:>8}   check {check:>8}");
+        println!("{radius:<14}{range:>8}{check:>8}");
     }
 }

@@ -1,5 +1,5 @@
 -- Each call's promise leaves one outcome: two outcomes, answer and lent run, that meet it are equal. (That efforts are at most 65535 is known of a lent table of unsigned 16-bit numbers.)
-use mathlib.Core.Path.{_≡_, refl, sym, ap, ap₂, _∙_}
+use mathlib.Core.Path.{_≡_, sym, ap, ap₂, _∙_}
 use mathlib.Core.List.{List}
 use Prim.Native.Nat.{ℕ}
 use lib.IntN.{ℤ}

@@ -2,9 +2,9 @@
 use mathlib.Core.Path.{_∙_}
 use denote.Ref.{now}
 use mir.Syntax.{w64}
-use Rattle.whole.proofs.Machine.{read}
 use mir.Facts.{toZ-ofZ}
 use borrow.Author.Needs.{needs}
+use Rattle.whole.proofs.Machine.{read}
 use Rattle.firmware.proofs.Calling.{read-map, read-tile, check-call}
 use Rattle.firmware.proofs.kyrla_check.Statement.{statement}
 use Rattle.firmware.proofs.kyrla_check.Tie as tie
@@ -31,7 +31,10 @@ returns c =
     let m = k .before in
     let s = m .before .before .before .before in
     let a = s .args in
-    check-call (m .map-at .ensures ∙ read-map (a .radius) (toZ-ofZ (s .fits .cx)) (toZ-ofZ (s .fits .cy))) (now (a .efforts)) (read-tile (toZ-ofZ (s .fits .sx)) (toZ-ofZ (s .fits .sy))) (a .budget) (now (a .totals)) (now (a .broken)) _ _ _ _ (read w64 (c .told .result) (c .told .ok) ∙ c .told .ensures) (k .check-totals .ensures) (n .note .ensures)
+    let made = m .map-at .ensures ∙ read-map (a .radius) (toZ-ofZ (s .fits .cx)) (toZ-ofZ (s .fits .cy)) in
+    let from = read-tile (toZ-ofZ (s .fits .sx)) (toZ-ofZ (s .fits .sy)) in
+    let answer = read w64 (c .told .result) (c .told .ok) ∙ c .told .ensures in
+    check-call made (now (a .efforts)) from (a .budget) (now (a .totals)) (now (a .broken)) _ _ _ _ answer (k .check-totals .ensures) (n .note .ensures)
 
 pub kyrla-check-spec : {M : Type 1} → statement M
 kyrla-check-spec =

@@ -2,9 +2,9 @@
 use mathlib.Core.Path.{_∙_}
 use denote.Ref.{now}
 use mir.Syntax.{w64}
-use Rattle.whole.proofs.Machine.{read}
 use mir.Facts.{toZ-ofZ}
 use borrow.Author.Needs.{needs}
+use Rattle.whole.proofs.Machine.{read}
 use Rattle.firmware.proofs.Calling.{read-map, read-tile, range-call}
 use Rattle.firmware.proofs.kyrla_range.Statement.{statement}
 use Rattle.firmware.proofs.kyrla_range.Tie as tie
@@ -27,7 +27,10 @@ returns c =
     let m = r .before .before in
     let s = m .before .before .before in
     let a = s .args in
-    range-call (m .map-at .ensures ∙ read-map (a .radius) (toZ-ofZ (s .fits .cx)) (toZ-ofZ (s .fits .cy))) (now (a .efforts)) (read-tile (toZ-ofZ (s .fits .sx)) (toZ-ofZ (s .fits .sy))) (a .budget) (now (a .totals)) _ (r .riding-range .result) _ (read w64 (c .told .result) (c .told .ok) ∙ c .told .ensures) (r .riding-range .ensures)
+    let made = m .map-at .ensures ∙ read-map (a .radius) (toZ-ofZ (s .fits .cx)) (toZ-ofZ (s .fits .cy)) in
+    let from = read-tile (toZ-ofZ (s .fits .sx)) (toZ-ofZ (s .fits .sy)) in
+    let answer = read w64 (c .told .result) (c .told .ok) ∙ c .told .ensures in
+    range-call made (now (a .efforts)) from (a .budget) (now (a .totals)) _ (r .riding-range .result) _ answer (r .riding-range .ensures)
 
 pub kyrla-range-spec : {M : Type 1} → statement M
 kyrla-range-spec =
