@@ -4,14 +4,12 @@ use mathlib.Core.List.{List}
 use Prim.Native.Nat.{ℕ, _+_, _≤_, _<_}
 use native.Mathlib.Decide.{ℕ-discrete}
 use native.Mathlib.Omega.{arith}
-use lib.ListN.{length, getD, replicate, getD-replicate}
+use lib.ListN.{getD, replicate, getD-replicate}
 use Rattle.paths.specs.Lands.{Land}
 use Rattle.paths.specs.Tables.{Right}
 use Rattle.paths.specs.Engines.{Going}
 use Rattle.paths.proofs.Settling.{settled-right}
 use Rattle.paths.proofs.Lowering.{going-begin, going-less, going-settled}
-use Rattle.storage.specs.declared.Map.{Map}
-use Rattle.storage.specs.Leaves.{nearIn}
 use Rattle.engine.specs.Leaves.{shut, largestArea, room, unreached, openLeaf, closedLeaf, totalOf}
 use Rattle.engine.specs.Trees.{leaf, Put, Heap}
 use Rattle.engine.specs.Settling.{totals, live, pend, work, Goes, Kept, LookedAround}
@@ -24,6 +22,7 @@ use Rattle.engine.proofs.Heaps.{work-put, heap-put, root-shut, Open}
 going-like : (G : Land) (T T′ : ℕ → ℕ) (s b : ℕ) (P : ℕ → ℕ → Type 0) → ((t : ℕ) → T′ t ≡ T t) → Going G T s b P → Going G T′ s b P
 going-like G T T′ s b P same = subst (λ (F : ℕ → ℕ). Going G F s b P) (sym (λ i. λ (t : ℕ). same t i))
 
+-- From H, the looking led to H₁ and the closing to H₂.
 module _ (a u base : ℕ) (H H₁ H₂ : List ℕ) (o : Open a H u base) (k : Kept a base H H₁) (p : Put a u (closedLeaf base) H₁ H₂) where
   is-still : totals a H₁ u ≡ base
   is-still = ap totalOf (k .stays u (o .is)) ∙ o .is
@@ -59,13 +58,15 @@ module _ (a u base : ℕ) (H H₁ H₂ : List ℕ) (o : Open a H u base) (k : Ke
       left : (x d : ℕ) → d < 6 → pend a H₁ u 6 x d → live a H₂ x d
       left x d h q = (q .0 .0, omega (arith, q .0 .1, p .others x (λ e. omega (arith, q .1 e, h))))
 
-  pub turned : (map : Map) (E beside : List ℕ) (b : ℕ) → length E ≡ a → ((d : ℕ) → d < 6 → getD beside d 0 ≡ nearIn map u d) → LookedAround a b base E beside 6 H H₁ → Turned map E a b H H₂
-  turned map E beside b el eb around =
+  pub turned : (to cost : ℕ → ℕ → ℕ) (b : ℕ) (beside costs : List ℕ)
+      → ((d : ℕ) → d < 6 → getD beside d 0 ≡ to u d) → ((d : ℕ) → d < 6 → getD costs d 0 ≡ cost u d)
+      → LookedAround a base b beside costs 6 H H₁ → Turned to cost a b H H₂
+  turned to cost b beside costs beside-is costs-is around =
       record {
         heap = heap-closed;
         size = p .size ∙ k .size;
         falls = work-closed;
-        goes = λ G paved. goes-closed G b (around G u (paved .tiles ∙ el) (λ d h. rw (eb d h) (paved .leads u d (omega (arith, el, o .on)) h)) (o .is));
+        goes = λ G paved. goes-closed G b (around G u (paved .tiles) (λ d h. rw (beside-is d h, costs-is d h) (paved .leads u d (o .on) h)) (o .is));
       }
 
 -- The start: no tile is reached but s, which is open.
@@ -80,10 +81,10 @@ module _ (a : ℕ) (H : List ℕ) (is : H ≡ replicate room unreached) (few : a
     pub heap-begun : Heap a H′
     heap-begun = heap-put a s (openLeaf 0 s) H H′ p heap-blank (λ l. omega arith)
 
-    pub going-begun : (map : Map) (E : List ℕ) (b : ℕ) (G : Land) → length E ≡ a → Paved G map E → Going G (totals a H′) s b (live a H′)
-    going-begun map E b G el paved =
+    pub going-begun : (to cost : ℕ → ℕ → ℕ) (b : ℕ) (G : Land) → Paved G a to cost → Going G (totals a H′) s b (live a H′)
+    going-begun to cost b G paved =
         going-begin G (totals a H′) s b (live a H′) (ap totalOf (p .own) ∙ open-total 0 s (omega arith) (omega arith))
-        (λ t h n. ap totalOf (p .others t n ∙ at-first t (omega (arith, paved .tiles, el))) ∙ total-above unreached (omega arith) ∙ sym (paved .mark))
+        (λ t h n. ap totalOf (p .others t n ∙ at-first t (omega (arith, paved .tiles))) ∙ total-above unreached (omega arith) ∙ sym (paved .mark))
         (λ d h. (hs, omega (arith, p .own)))
 
 -- The end: the root is closed.

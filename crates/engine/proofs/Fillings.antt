@@ -24,8 +24,11 @@ use Rattle.terrain.proofs.Totals.{Efforts, capped, sums-below}
 use Rattle.engine.specs.Filling.{fits, FillsTotals}
 use Rattle.engine.specs.Leaves.{noTotal}
 use Rattle.engine.specs.Settling.{totals}
+use Rattle.engine.specs.Steps.{toOf, costOf}
 use Rattle.engine.specs.Turns.{OfMap, Settles}
-use Rattle.engine.proofs.Paving.{paved}
+use Rattle.engine.specs.Writing.{Written}
+use Rattle.engine.specs.declared.steps.Table.{Table}
+use Rattle.engine.proofs.Paving.{totals-paved}
 
 -- The two tests of `fit`.
 module _ (map : Map) (start efforts table : ℕ) where
@@ -63,21 +66,17 @@ module _ (map : Map) (start efforts table : ℕ) where
       let a = tiles-fine map z in
       sym (start-on (omega (arith, a, h))) ∙ sym (fit-by-table map efforts table (e ∙ sym a)) ∙ eq-eqb table (tilesOf map) (t ∙ sym a)
 
--- The totals of the tiles below k stand in the table.
-pub record Written (a : ℕ) (H : List ℕ) (k : ℕ) (table : List ℕ) : Type 0 where
-  pub size : length table ≡ a
-  pub below : (t : ℕ) → t < k → getD table t 0 ≡ min (totals a H t) noWay
-
-pub written-next : (a : ℕ) (H : List ℕ) (k x : ℕ) (table : List ℕ) → k < a → x ≡ min (totals a H k) noWay → Written a H k table → Written a H (k + 1) (set table k x)
-written-next a H k x table h e w =
+-- One entry more is written.
+pub written-next : (a : ℕ) (entry : ℕ → ℕ) (k x : ℕ) (table : List ℕ) → k < a → x ≡ entry k → Written a entry k table → Written a entry (k + 1) (set table k x)
+written-next a entry k x table h e w =
     record { size = length-set table k x ∙ w .size; below = λ t l. go t l (ℕ-discrete t k) }
   where
-    go : (t : ℕ) → t < k + 1 → Dec (t ≡ k) → getD (set table k x) t 0 ≡ min (totals a H t) noWay
-    go t l (yes p) = ap (λ (n : ℕ). getD (set table k x) n 0) p ∙ getD-set-same table k x 0 (omega (arith, w .size)) ∙ e ∙ ap (λ (n : ℕ). min (totals a H n) noWay) (sym p)
+    go : (t : ℕ) → t < k + 1 → Dec (t ≡ k) → getD (set table k x) t 0 ≡ entry t
+    go t l (yes p) = ap (λ (n : ℕ). getD (set table k x) n 0) p ∙ getD-set-same table k x 0 (omega (arith, w .size)) ∙ e ∙ ap entry (sym p)
     go t l (no p) = getD-set-other table k t x 0 p ∙ w .below t (omega arith)
 
 -- A table in which all totals stand is right, with its own mark for no way: no least sum comes near either mark.
-module _ (map : Map) (E : List ℕ) (s b : ℕ) (H : List ℕ) (of : OfMap map E) (short : Efforts E) (hs : s < areaOf (map .radius)) (settles : Settles map E b s H) where
+module _ (map : Map) (E : List ℕ) (s b : ℕ) (H : List ℕ) (of : OfMap map E) (short : Efforts E) (hs : s < areaOf (map .radius)) (settles : Settles (toOf Table.Totals map) (costOf Table.Totals map E) (length E) b s H) where
   abbrev T : ℕ → ℕ
   T = totals (length E) H
 
@@ -85,7 +84,7 @@ module _ (map : Map) (E : List ℕ) (s b : ℕ) (H : List ℕ) (of : OfMap map E
   below mark = sums-below map (fine map (of .fine) .small) E short mark
 
   right : Right (landOf map E noTotal) T s b
-  right = settles (landOf map E noTotal) (paved map E of)
+  right = settles (landOf map E noTotal) (totals-paved map E of)
 
   no-dearer : Capped (landOf map E noTotal) barred
   no-dearer = capped map (fine map (of .fine) .small) E short noTotal
@@ -101,25 +100,23 @@ module _ (map : Map) (E : List ℕ) (s b : ℕ) (H : List ℕ) (of : OfMap map E
       right
 
 -- The two ways in which a table is filled or not.
+pub clash : true ≡ false → ⊥
+clash z = let k : _≡_ {A = ℕ} 0 1 = cc in omega arith
+
 module _ (map : Map) (E : List ℕ) (s b : ℕ) (before : List ℕ) where
   pub leaves-it : fits map s (length E) (length before) ≡ false → FillsTotals map E s b before before
   leaves-it e = record { filled = λ f. absurd (clash (sym f ∙ e)); left = λ f. refl }
-    where
-      clash : true ≡ false → ⊥
-      clash z = let k : _≡_ {A = ℕ} 0 1 = cc in omega arith
 
-  pub fills : (k : Fits map s (length E) (length before)) → Efforts E → (H after : List ℕ) → Settles map E b s H → length after ≡ length before → ((t : ℕ) → t < length before → getD after t 0 ≡ min (totals (length before) H t) noWay)
+  pub fills : Fits map s (length E) (length before) → Efforts E → (H after : List ℕ) → Settles (toOf Table.Totals map) (costOf Table.Totals map E) (length E) b s H
+      → Written (length before) (λ t. min (totals (length before) H t) noWay) (length before) after
       → fits map s (length E) (length before) ≡ true → FillsTotals map E s b before after
-  fills k short H after settles size each e =
-      record { filled = λ f. (size, right-after); left = λ f. absurd (clash (sym e ∙ f)) }
+  fills k short H after settles w e =
+      record { filled = λ f. (w .size, right-after); left = λ f. absurd (clash (sym e ∙ f)) }
     where
-      clash : true ≡ false → ⊥
-      clash z = let k : _≡_ {A = ℕ} 0 1 = cc in omega arith
-
       lengths-same : length before ≡ length E
       lengths-same = k .table-length ∙ sym (k .efforts-length)
 
       right-after : Right (landOf map E noWay) (at after) s b
       right-after =
           filled-right map E s b H (record { fine = k .map-fine; size = k .efforts-length }) short (k .on) settles after
-          (λ t h. rw lengths-same at (each t (omega (arith, lengths-same))))
+          (λ t h. rw lengths-same at (w .below t (omega (arith, lengths-same))))

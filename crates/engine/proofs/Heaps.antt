@@ -27,6 +27,7 @@ module _ (f g : ℕ → ℕ) (i : ℕ) (others : (k : ℕ) → (k ≡ i → ⊥)
         | no n ↦ omega (arith, sum-but k (omega arith), others k n)
       ]
 
+-- One leaf was set.
 module _ (a i v : ℕ) (H H′ : List ℕ) (p : Put a i v H H′) where
   pub work-put : i < a → work a H′ + weightOf (leaf a H i) ≡ work a H + weightOf v
   work-put h =

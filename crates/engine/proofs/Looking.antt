@@ -10,12 +10,8 @@ use Rattle.paths.proofs.Lowering.{going-lower, going-past}
 use Rattle.engine.specs.Leaves.{indices, shut, largestTotal, openLeaf, totalOf, weightOf}
 use Rattle.engine.specs.Trees.{leaf, Heap, Put}
 use Rattle.engine.specs.Settling.{totals, live, pend, Fit, Kept, Looked, LookedAround}
-use Rattle.terrain.specs.LandOfMap.{priceOf}
 use Rattle.engine.proofs.Totals.{open-below, open-total, weight-below, weight-least}
 use Rattle.engine.proofs.Heaps.{work-put, heap-put}
-
-pub fit-like : {a b : ℕ} {E H H′ : List ℕ} → Heap a H′ → Fit a b E H → Fit a b E H′
-fit-like h f = record { heap = h; budget = f .budget; efforts = f .efforts }
 
 pub kept-refl : (a base : ℕ) (H : List ℕ) → Heap a H → Kept a base H H
 kept-refl a base H h = record { heap = h; size = refl; falls = omega arith; stays = λ u e. refl }
@@ -30,9 +26,9 @@ kept-trans k j =
     }
 
 -- One direction more, in a loop over the six.
-pub around-next : (a b base d : ℕ) (E beside H H₁ H₂ : List ℕ) → d < 6 → Kept a base H H₁ → LookedAround a b base E beside d H H₁
-    → Looked a b base (getD beside d 0) (priceOf (getD E (getD beside d 0) 0)) H₁ H₂ → LookedAround a b base E beside (d + 1) H H₂
-around-next a b base d E beside H H₁ H₂ h k around looked G u tiles leads is s g =
+pub around-next : (a base b d : ℕ) (beside costs H H₁ H₂ : List ℕ) → d < 6 → Kept a base H H₁ → LookedAround a base b beside costs d H H₁
+    → Looked a base b (getD beside d 0) (getD costs d 0) H₁ H₂ → LookedAround a base b beside costs (d + 1) H H₂
+around-next a base b d beside costs H H₁ H₂ h k around looked G u tiles leads is s g =
     looked G u d tiles (leads d h) (ap totalOf (k .stays u is) ∙ is) s (around G u tiles leads is s g)
 
 -- The step out of u by d has been looked at.
@@ -43,8 +39,8 @@ past a H u d x e p g = (p .0, λ i. next i (ℕ-discrete e d))
     next i (yes j) = absurd (g (i, j))
     next i (no j) = omega (arith, p .1 i)
 
-module _ (a b base t w : ℕ) (H : List ℕ) (heap : Heap a H) where
-  looked-same : (t < a → 0 < w → base + w ≤ b → totals a H t ≤ base + w) → Looked a b base t w H H
+module _ (a base b t w : ℕ) (H : List ℕ) (fit : Fit a base b H) where
+  looked-same : (t < a → 0 < w → base + w ≤ b → totals a H t ≤ base + w) → Looked a base b t w H H
   looked-same low G u d tiles leads is s g = going-past G (totals a H) s b (pend a H u d) (pend a H u (d + 1)) u d enough (past a H u d) g
     where
       enough : (y v : ℕ) → Step G u d y v → totals a H u < G .mark → totals a H u + v ≤ b → totals a H y ≤ totals a H u + v
@@ -53,19 +49,22 @@ module _ (a b base t w : ℕ) (H : List ℕ) (heap : Heap a H) where
           rw (o .0, is) (omega (arith, o .1, low (omega (arith, o .0, st .into)) (omega (arith, o .1, st .paid)) (omega (arith, o .1))))
 
   -- The step lowers nothing.
-  pub unchanged : (t < a → 0 < w → base + w ≤ b → totals a H t ≤ base + w) → Kept a base H H × Looked a b base t w H H
-  unchanged low = (kept-refl a base H heap, looked-same low)
+  pub unchanged : (t < a → 0 < w → base + w ≤ b → totals a H t ≤ base + w) → Kept a base H H × Looked a base b t w H H
+  unchanged low = (kept-refl a base H (fit .heap), looked-same low)
 
   -- It lowers t.
-  module _ (ht : t < a) (hw : 0 < w) (hb : base + w ≤ b) (low : base + w < totals a H t) (small : b ≤ largestTotal) (H′ : List ℕ) (p : Put a t (openLeaf (base + w) t) H H′) where
+  module _ (ht : t < a) (hw : 0 < w) (hb : base + w ≤ b) (low : base + w < totals a H t) (H′ : List ℕ) (p : Put a t (openLeaf (base + w) t) H H′) where
     index-small : t < indices
-    index-small = omega (arith, heap .winners .few)
+    index-small = omega (arith, fit .heap .winners .few)
+
+    total-small : base + w ≤ largestTotal
+    total-small = omega (arith, fit .budget)
 
     below : leaf a H′ t < shut
-    below = omega (arith, p .own, open-below (base + w) t (omega arith) index-small)
+    below = omega (arith, p .own, open-below (base + w) t total-small index-small)
 
     own : totals a H′ t ≡ base + w
-    own = ap totalOf (p .own) ∙ open-total (base + w) t (omega arith) index-small
+    own = ap totalOf (p .own) ∙ open-total (base + w) t total-small index-small
 
     others : (k : ℕ) → (k ≡ t → ⊥) → totals a H′ k ≡ totals a H k
     others k n = ap totalOf (p .others k n)
@@ -77,13 +76,13 @@ module _ (a b base t w : ℕ) (H : List ℕ) (heap : Heap a H) where
     kept-lower : Kept a base H H′
     kept-lower =
         record {
-          heap = heap-put a t (openLeaf (base + w) t) H H′ p heap (λ l. omega (arith, index-small));
+          heap = heap-put a t (openLeaf (base + w) t) H H′ p (fit .heap) (λ l. omega (arith, index-small));
           size = p .size;
           falls = omega (arith, work-put a t (openLeaf (base + w) t) H H′ p ht, weight-least (leaf a H t), weight-below (leaf a H′ t) below, own, ap weightOf (p .own));
           stays = λ u is. p .others u (apart u is);
         }
 
-    looked-lower : Looked a b base t w H H′
+    looked-lower : Looked a base b t w H H′
     looked-lower G u d tiles leads is s g =
         going-past G (totals a H′) s b (pend a H′ u d) (pend a H′ u (d + 1)) u d enough (past a H′ u d)
         (going-lower G (totals a H) (totals a H′) s b (pend a H u d) (pend a H′ u d) u d t w (leads .opens (omega (arith, tiles)) hw)
@@ -99,5 +98,5 @@ module _ (a b base t w : ℕ) (H : List ℕ) (heap : Heap a H) where
         enough : (y v : ℕ) → Step G u d y v → totals a H′ u < G .mark → totals a H′ u + v ≤ b → totals a H′ y ≤ totals a H′ u + v
         enough y v st m l = let o = leads .only y v st in rw (o .0) (omega (arith, o .1, own, others u (apart u is), is))
 
-    pub lowered : Kept a base H H′ × Looked a b base t w H H′
+    pub lowered : Kept a base H H′ × Looked a base b t w H H′
     lowered = (kept-lower, looked-lower)

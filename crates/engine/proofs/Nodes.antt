@@ -37,6 +37,19 @@ module _ (a k w : ℕ) (H : List ℕ) (inside : k / 2 < length H) (all : But a H
       go (yes e) = itself q h₁ e
       go (no n) = away H (k / 2) q w n (λ e. h₃ (omega (arith, e))) (λ e. h₃ (omega (arith, e))) (all q h₁ h₂ n)
 
+-- The node beside k is 4p + 1 - k, where p is the parent of both.
+pub beside-k : (k : ℕ) (H : List ℕ) → 1 ≤ k → min (getD H k 0) (getD H (4 * (k / 2) + 1 - k) 0) ≡ min (getD H (2 * (k / 2)) 0) (getD H (2 * (k / 2) + 1) 0)
+beside-k k H h = go (ℕ-discrete k (2 * (k / 2)))
+  where
+    go : Dec (k ≡ 2 * (k / 2)) → min (getD H k 0) (getD H (4 * (k / 2) + 1 - k) 0) ≡ min (getD H (2 * (k / 2)) 0) (getD H (2 * (k / 2) + 1) 0)
+    go (yes e) =
+        let f : 4 * (k / 2) + 1 - k ≡ 2 * (k / 2) + 1 = omega (arith, e) in
+        omega (arith, ap (λ (m : ℕ). getD H m 0) e, ap (λ (m : ℕ). getD H m 0) f)
+    go (no n) =
+        let e : k ≡ 2 * (k / 2) + 1 = omega (arith, n) in
+        let f : 4 * (k / 2) + 1 - k ≡ 2 * (k / 2) = omega (arith, e) in
+        omega (arith, ap (λ (m : ℕ). getD H m 0) e, ap (λ (m : ℕ). getD H m 0) f)
+
 -- The parent of k is right after all.
 pub but-none : (a k : ℕ) (H : List ℕ) → But a H k → Node H (k / 2) → (q : ℕ) → 1 ≤ q → q < a → Node H q
 but-none a k H all n q h₁ h₂ = go (ℕ-discrete q (k / 2))
@@ -57,6 +70,7 @@ put-when a i v H H′ w h size leaves nodes =
       others = λ j n. leaves j ∙ getD-set-other H (a + i) (a + j) v 0 (λ e. n (omega (arith, e)));
     }
 
+-- The root is the smallest leaf.
 module _ (a : ℕ) (H : List ℕ) (w : Winners a H) where
   parent : (k : ℕ) → 1 < k → k < 2 * a → getD H (k / 2) 0 ≤ getD H k 0
   parent k h₁ h₂ = go (ℕ-discrete k (2 * (k / 2)))
@@ -84,7 +98,7 @@ module _ (a : ℕ) (H : List ℕ) (w : Winners a H) where
   abbrev Held : ℕ → Type 0
   Held k = (i : ℕ) × (i < a) × (leaf a H i ≡ getD H k 0)
 
-  -- It is one of the two below k that is held, or k is a leaf itself.
+  -- Node k holds what one of the two below it holds, or is a leaf itself.
   held-next : (k : ℕ) → 1 ≤ k → k < 2 * a → (k < a → Held (2 * k)) → (k < a → Held (2 * k + 1)) → Held k
   held-next k h₁ h₂ left right = go (decLt k a)
     where
@@ -96,7 +110,7 @@ module _ (a : ℕ) (H : List ℕ) (w : Winners a H) where
       go (yes l) = of-two l (decLt (getD H (2 * k) 0) (getD H (2 * k + 1) 0))
       go (no m) = let e : a + (k - a) ≡ k = omega (arith, m) in (k - a, omega (arith, m, h₂), ap (λ (j : ℕ). getD H j 0) e)
 
-  -- Of the last n nodes, the leaves among them.
+  -- So does each of the last n nodes.
   held : (n k : ℕ) → 2 * a ≤ k + n → 1 ≤ k → k < 2 * a → Held k
   held zero k h h₁ h₂ = absurd (omega (arith, h, h₂))
   held (suc n) k h h₁ h₂ =

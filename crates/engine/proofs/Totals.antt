@@ -1,10 +1,9 @@
--- What a leaf tells, what it adds to the measure, and what an effort costs.
+-- What a leaf tells, and what it adds to the measure.
 use mathlib.Core.Path.{_≡_, ap}
 use mathlib.Core.Bool.{Bool, cond}
 use Prim.Native.Nat.{ℕ, _+_, _-_, _*_, _/_, _≤_, _<_}
 use native.Mathlib.Omega.{arith}
-use borrow.Author.Tests.{lt-ltb, le-ltb, eq-eqb, ne-eqb}
-use Rattle.hex.specs.Limits.{barred}
+use borrow.Author.Tests.{lt-ltb, le-ltb}
 use Rattle.engine.specs.Leaves.{indices, shut, largestTotal, openLeaf, closedLeaf, totalOf, weightOf}
 
 pub total-below : (x : ℕ) → x < shut → totalOf x ≡ x / indices

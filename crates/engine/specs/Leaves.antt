@@ -2,6 +2,8 @@
 use mathlib.Core.Bool.{cond}
 use Prim.Native.Nat.{ℕ, _+_, _-_, _*_, _/_}
 use lib.Dec.{ltb}
+use Rattle.hex.specs.Limits.{radiusLimit}
+use Rattle.storage.specs.Maps.{areaOf}
 
 -- An open leaf is its total times this, and the tile's index.
 abbrev pub indices : ℕ
@@ -21,10 +23,10 @@ largestTotal = 281470681743359
 
 -- The largest map has this many tiles, and a tree over them twice as many nodes.
 abbrev pub largestArea : ℕ
-largestArea = 10981
+largestArea = areaOf radiusLimit
 
 abbrev pub room : ℕ
-room = 21962
+room = 2 * largestArea
 
 abbrev pub openLeaf : ℕ → ℕ → ℕ
 openLeaf total i = total * indices + i
@@ -34,7 +36,7 @@ closedLeaf total = shut + total
 
 -- The leaf of a tile to which no way has been found.
 abbrev pub unreached : ℕ
-unreached = 18446744073709551615
+unreached = closedLeaf noTotal
 
 -- The total that a leaf tells.
 unfoldable pub totalOf : ℕ → ℕ

@@ -1,11 +1,10 @@
--- What an engine keeps while it settles tiles: the tree over a tiles, as a list H, and the steps that are still to be looked at.
+-- What an engine keeps while it settles tiles: the tree over a tiles, as a list H, and the steps that are still to be looked at. It speaks of every land: where a step leads and what it costs is for the land to say.
 use mathlib.Core.Path.{_≡_}
 use mathlib.Core.List.{List}
 use Prim.Native.Nat.{ℕ, zero, suc, _+_, _≤_, _<_}
 use lib.ListN.{length, getD}
 use Rattle.paths.specs.Lands.{Land, Step}
 use Rattle.paths.specs.Engines.{Going}
-use Rattle.terrain.specs.LandOfMap.{priceOf}
 use Rattle.engine.specs.Leaves.{shut, largestTotal, totalOf, weightOf}
 use Rattle.engine.specs.Trees.{leaf, Heap}
 
@@ -29,11 +28,15 @@ sum f (suc k) = sum f k + f k
 abbrev pub work : ℕ → List ℕ → ℕ
 work a H = sum (λ i. weightOf (leaf a H i)) a
 
--- What looking at steps is given: the tree, a budget that a leaf can tell, and the efforts E of the tiles.
-pub record Fit (a b : ℕ) (E H : List ℕ) : Type 0 where
+-- What looking at the steps out of a tile is given: the tree, the tile's total and the budget, neither more than a leaf can tell.
+pub record Fit (a base b : ℕ) (H : List ℕ) : Type 0 where
   pub heap : Heap a H
+  pub total : base ≤ largestTotal
   pub budget : b ≤ largestTotal
-  pub efforts : length E ≡ a
+
+-- Six costs, none of them more than a leaf can tell.
+abbrev pub Small : List ℕ → Type 0
+Small costs = (d : ℕ) → d < 6 → getD costs d 0 ≤ largestTotal
 
 -- Out of u by direction d there is at most one step, into t at cost w; it is open if t is a tile and w is not 0.
 pub record Leads (G : Land) (u d t w : ℕ) : Type 0 where
@@ -53,11 +56,11 @@ pub record Kept (a base : ℕ) (H H′ : List ℕ) : Type 0 where
 
 -- In every land in which a step out of such a tile leads to t at cost w, that step has been looked at.
 abbrev pub Looked : ℕ → ℕ → ℕ → ℕ → ℕ → List ℕ → List ℕ → Type 0
-Looked a b base t w H H′ =
+Looked a base b t w H H′ =
     (G : Land) (u d : ℕ) → G .tiles ≡ a → Leads G u d t w → totals a H u ≡ base → Goes G b a H H′ (pend a H u d) (pend a H′ u (d + 1))
 
--- The same of the steps by the directions below k, which lead to the tiles `beside` at the prices of their efforts E.
+-- In every land in which the six steps out of such a tile lead to the tiles `beside` at these costs, those by directions below k have been looked at.
 abbrev pub LookedAround : ℕ → ℕ → ℕ → List ℕ → List ℕ → ℕ → List ℕ → List ℕ → Type 0
-LookedAround a b base E beside k H H′ =
-    (G : Land) (u : ℕ) → G .tiles ≡ a → ((d : ℕ) → d < 6 → Leads G u d (getD beside d 0) (priceOf (getD E (getD beside d 0) 0))) → totals a H u ≡ base
+LookedAround a base b beside costs k H H′ =
+    (G : Land) (u : ℕ) → G .tiles ≡ a → ((d : ℕ) → d < 6 → Leads G u d (getD beside d 0) (getD costs d 0)) → totals a H u ≡ base
     → Goes G b a H H′ (pend a H u 0) (pend a H′ u k)

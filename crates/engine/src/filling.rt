@@ -1,17 +1,23 @@
-// From the leaves of the tree to a table of totals.
+// From the leaves of the tree to a table of totals or of ranks.
 
+use crate::leaves::NO_TOTAL;
 use crate::leaves::total_of;
 use hex::limits;
 use storage::Index;
 use storage::Map;
 ghost use mathlib.Core.Path.{_≡_};
-ghost use Prim.Native.Nat.{ℕ, _*_, _<_, _≤_, min};
-ghost use lib.ListN.{length, getD};
+ghost use Prim.Native.Nat.{_*_, _≤_, min};
+ghost use lib.ListN.{length};
+ghost use Rattle.routes.specs.Ranks.{noRank};
 ghost use Rattle.hex.specs.Limits.{noWay};
 ghost use Rattle.engine.specs.Filling.{fits};
 ghost use Rattle.engine.specs.Settling.{totals};
+ghost use Rattle.engine.specs.Writing.{rankOf, Written};
 
-// Is the start an index of the map, and has each table an entry for each of its tiles?
+// The rank where there is no route. `Rattle.routes.specs.Ranks` names the same number for the promises.
+const NO_RANK: u64 = 18_446_744_073_709_551_615;
+
+// Is the tile that sums start from an index of the map, and has each table an entry for each of its tiles?
 pub(crate) fn fit(map: Map, start: Index, efforts: usize, table: usize) -> bool
     ensures { λ r. ⌜ r ≡ fits map (start .0) efforts table ⌝ }
 {
@@ -35,13 +41,44 @@ fn entry_of(total: u64) -> u32
 // Writes the totals that the leaves tell.
 pub(crate) fn write_totals(tree: &[u64], table: &mut [u32])
     requires { ⌜ 2 * length (now table) ≤ length (now tree) ⌝ }
-    ensures { λ _. ⌜ length (now (table .exit)) ≡ length (now (table .entry)) ⌝ }
-    ensures { λ _. ⌜ ((t : ℕ) → t < length (now (table .entry)) → getD (now (table .exit)) t 0 ≡ min (totals (length (now (table .entry))) (now (tree .entry)) t) noWay) ⌝ }
+    ensures { λ _. ⌜ Written (length (now (table .entry))) (λ t. min (totals (length (now (table .entry))) (now (tree .entry)) t) noWay) (length (now (table .entry))) (now (table .exit)) ⌝ }
 {
     let a = table.len();
     let mut i: usize = 0;
     while i < a {
         table[i] = entry_of(total_of(tree[a + i]));
+        i += 1;
+    }
+}
+
+// A total as a rank: where no way leads, ranks have a mark of their own.
+fn rank_of(total: u64) -> u64
+    ensures { λ r. ⌜ r ≡ rankOf total ⌝ }
+{
+    if total < NO_TOTAL { total } else { NO_RANK }
+}
+
+// Writes the ranks that the leaves tell.
+pub(crate) fn write_ranks(tree: &[u64], table: &mut [u64])
+    requires { ⌜ 2 * length (now table) ≤ length (now tree) ⌝ }
+    ensures { λ _. ⌜ Written (length (now (table .entry))) (λ t. rankOf (totals (length (now (table .entry))) (now (tree .entry)) t)) (length (now (table .entry))) (now (table .exit)) ⌝ }
+{
+    let a = table.len();
+    let mut i: usize = 0;
+    while i < a {
+        table[i] = rank_of(total_of(tree[a + i]));
+        i += 1;
+    }
+}
+
+// Writes that no tile has a route.
+pub(crate) fn write_no_ranks(table: &mut [u64])
+    ensures { λ _. ⌜ Written (length (now (table .entry))) (λ t. noRank) (length (now (table .entry))) (now (table .exit)) ⌝ }
+{
+    let a = table.len();
+    let mut i: usize = 0;
+    while i < a {
+        table[i] = NO_RANK;
         i += 1;
     }
 }

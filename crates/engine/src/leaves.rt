@@ -10,6 +10,15 @@ pub(crate) const INDICES: u64 = 65_536;
 // A closed leaf is this and its total, so that every closed leaf is above every open one.
 pub(crate) const SHUT: u64 = 18_446_462_598_732_840_960;
 
+// The total of a tile to which no way leads.
+pub(crate) const NO_TOTAL: u64 = 281_474_976_710_655;
+
+// The largest total that an open leaf can tell, whatever the index, and stay below `SHUT`.
+pub(crate) const LARGEST_TOTAL: u64 = 281_470_681_743_359;
+
+// The leaf of a tile to which no way has been found.
+pub(crate) const UNREACHED: u64 = SHUT + NO_TOTAL;
+
 // The total of the tile.
 pub(crate) fn total_of(leaf: u64) -> u64
     ensures { λ r. ⌜ r ≡ totalOf leaf ⌝ }

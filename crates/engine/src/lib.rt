@@ -1,14 +1,19 @@
 // Tables of least path sums over the land of a map, by always settling the open tile with the smallest total.
 
-ghost use Rattle.engine.specs.Filling.{FillsTotals};
+ghost use Rattle.engine.specs.Filling.{FillsTotals, FillsRanks};
 
 mod beside;
+mod costs;
 mod filling;
 mod leaves;
 mod settling;
+mod steps;
 mod turns;
 mod winners;
 
+use crate::leaves::LARGEST_TOTAL;
+use crate::steps::Table;
+use hex::limits;
 use storage::Index;
 use storage::Map;
 
@@ -19,6 +24,22 @@ pub fn fill_totals(map: Map, efforts: &[u16], start: Index, budget: u32, totals:
     if !filling::fit(map, start, efforts.len(), totals.len()) {
         return;
     }
-    let tree = turns::settle(map, efforts, start.0 as usize, budget as u64);
+    let tree = turns::settle(Table::Totals, map, efforts, start.0 as usize, budget as u64);
     filling::write_totals(&tree, totals);
+}
+
+// Fills a table with the ranks for an end, by dense index. It is left as it is if the map is not fine, or the end or the length of a table is not the map's.
+pub fn fill_ranks(map: Map, efforts: &[u16], end: Index, ranks: &mut [u64])
+    ensures { λ _. ⌜ FillsRanks map (now (efforts .entry)) (end .0) (now (ranks .entry)) (now (ranks .exit)) ⌝ }
+{
+    if !filling::fit(map, end, efforts.len(), ranks.len()) {
+        return;
+    }
+    let e = end.0 as usize;
+    if efforts[e] >= limits::BARRED {
+        filling::write_no_ranks(ranks);
+        return;
+    }
+    let tree = turns::settle(Table::Ranks, map, efforts, e, LARGEST_TOTAL);
+    filling::write_ranks(&tree, ranks);
 }

@@ -50,7 +50,7 @@ returns-2 c =
     let w = c .before .before in
     let s = w .before .before .before in
     let e = s .before .before in
-    fills _ _ _ _ _ (known e) (λ i. omega (arith, e .before .before .before .shared-slice-known .given i)) (s .settle .result) _ (s .settle .ensures) (w .write-totals .ensures .0) (w .write-totals .ensures .1) (sym (e .before .fit .ensures) ∙ not-false _ (e .if1 .left))
+    fills _ _ _ _ _ (known e) (λ i. omega (arith, e .before .before .before .shared-slice-known .given i)) (s .settle .result) _ (s .settle .ensures) (w .write-totals .ensures) (sym (e .before .fit .ensures) ∙ not-false _ (e .if1 .left))
 
 pub fill-totals-spec : {M : Type 1} → statement M
 fill-totals-spec =

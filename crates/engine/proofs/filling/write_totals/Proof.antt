@@ -6,12 +6,14 @@ use native.Mathlib.Omega.{arith}
 use borrow.Author.Needs.{needs}
 use lib.ListN.{length}
 use Rattle.hex.specs.Limits.{noWay}
-use Rattle.engine.proofs.Fillings.{Written, written-next}
+use Rattle.engine.specs.Settling.{totals}
+use Rattle.engine.specs.Writing.{Written}
+use Rattle.engine.proofs.Fillings.{written-next}
 use Rattle.engine.proofs.filling.write_totals.Statement.{statement}
 use Rattle.engine.proofs.filling.write_totals.Tie as tie
 
 abbrev Inv-loop : tie.InvT-loop
-Inv-loop tree table₀ a i₀ table i = Written (length table₀) tree i table
+Inv-loop tree table₀ a i₀ table i = Written (length table₀) (λ t. min (totals (length table₀) tree t) noWay) i table
 
 abbrev μ-loop : tie.MeasureT-loop
 μ-loop tree table₀ a i₀ table i = length table₀ - i
@@ -49,13 +51,15 @@ loop-less c = let l = c .before .before .before in omega (arith, l .loop-test .t
 loop-again : tie.Need-loop-again Inv-loop μ-loop
 loop-again c =
     let l = c .before .before .before in
-    written-next _ _ _ _ _ (l .loop-test .taken) (c .entry-of .ensures ∙ ap (λ (n : ℕ). min n noWay) (c .before .total-of .ensures)) (l .before .loop .inv)
+    let x = l .before .before .before .before .args in
+    let a = length (now (x .table)) in
+    written-next a (λ t. min (totals a (now (x .tree)) t) noWay) (l .before .loop .i) (c .entry-of .result) (l .before .loop .table) (l .loop-test .taken) (c .entry-of .ensures ∙ ap (λ (n : ℕ). min n noWay) (c .before .total-of .ensures)) (l .before .loop .inv)
 
 same-length : tie.Need-same-length Inv-loop μ-loop
 same-length c = c .before .loop .inv .size
 
 returns : tie.Need-returns Inv-loop μ-loop
-returns c = let w = c .before .loop .inv in (w .size, λ t h. w .below t (omega (arith, c .loop-test .left)))
+returns c = let w = c .before .loop .inv in record { size = w .size; below = λ t h. w .below t (omega (arith, c .loop-test .left)) }
 
 pub write-totals-spec : {M : Type 1} → statement M
 write-totals-spec =

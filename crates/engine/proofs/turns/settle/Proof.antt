@@ -7,6 +7,7 @@ use native.Mathlib.Omega.{arith}
 use borrow.Author.Needs.{needs}
 use Rattle.storage.proofs.Maps.{fine, area-small}
 use Rattle.engine.specs.Leaves.{openLeaf, largestArea}
+use Rattle.engine.specs.Steps.{toOf, costOf}
 use Rattle.engine.specs.Trees.{Put}
 use Rattle.engine.proofs.Closing.{heap-blank, heap-begun, going-begun}
 use Rattle.engine.proofs.turns.settle.Statement.{statement}
@@ -44,7 +45,7 @@ turns-requires c κs =
     let b = l .before .before .before in
     let k = b .before .before in
     let x = k .args in
-    (record { heap = heap-begun (length (now (x .efforts))) (b .blank .result) (b .blank .ensures) (few k) (omega (arith, k .pre .1 .0)) (x .start) (l .set-leaf .last .0) (k .pre .1 .0) (put l); budget = k .pre .1 .1; efforts = refl }, k .pre .0)
+    (heap-begun (length (now (x .efforts))) (b .blank .result) (b .blank .ensures) (few k) (omega (arith, k .pre .1 .0)) (x .start) (l .set-leaf .last .0) (k .pre .1 .0) (put l), (k .pre .1 .1, (k .pre .0, refl)))
 
 returns : tie.Need-returns
 returns c =
@@ -55,7 +56,7 @@ returns c =
     let x = k .args in
     λ G paved.
     t .turns .ensures G (x .start) paved
-    (going-begun (length (now (x .efforts))) (b .blank .result) (b .blank .ensures) (few k) (omega (arith, k .pre .1 .0)) (x .start) (l .set-leaf .last .0) (k .pre .1 .0) (put l) (x .map) (now (x .efforts)) (x .budget) G refl paved)
+    (going-begun (length (now (x .efforts))) (b .blank .result) (b .blank .ensures) (few k) (omega (arith, k .pre .1 .0)) (x .start) (l .set-leaf .last .0) (k .pre .1 .0) (put l) (toOf (x .table) (x .map)) (costOf (x .table) (x .map) (now (x .efforts))) (x .budget) G paved)
 
 pub settle-spec : {M : Type 1} → statement M
 settle-spec =

@@ -5,21 +5,21 @@ use native.Mathlib.Omega.{arith}
 use Rattle.paths.specs.Lands.{Land}
 use Rattle.engine.specs.Trees.{Heap}
 use Rattle.engine.specs.Settling.{live, work, Goes}
+use Rattle.engine.specs.Steps.{toOf, costOf}
 use Rattle.engine.specs.Turns.{Paved}
-use Rattle.engine.proofs.Looking.{fit-like}
 use Rattle.engine.proofs.Closing.{going-done}
 use Rattle.engine.proofs.turns.turns.Statement.{statement}
 use Rattle.engine.proofs.turns.turns.Tie as tie
 
 abbrev Inv-loop : tie.InvT-loop
-Inv-loop map efforts tree₀ a budget tree =
-    Heap a tree × (length tree ≡ length tree₀) × ((G : Land) → Paved G map efforts → Goes G budget a tree₀ tree (live a tree₀) (live a tree))
+Inv-loop table map efforts tree₀ a budget tree =
+    Heap a tree × (length tree ≡ length tree₀) × ((G : Land) → Paved G a (toOf table map) (costOf table map efforts) → Goes G budget a tree₀ tree (live a tree₀) (live a tree))
 
 abbrev μ-loop : tie.MeasureT-loop
-μ-loop map efforts tree₀ a budget tree = work a tree
+μ-loop table map efforts tree₀ a budget tree = work a tree
 
 loop-holds : tie.Need-loop-holds Inv-loop μ-loop
-loop-holds c = (c .before .before .pre .0 .heap, refl, λ G paved s g. g)
+loop-holds c = (c .before .before .pre .0, refl, λ G paved s g. g)
 
 slice-read-if1 : tie.Need-slice-read-if1 Inv-loop μ-loop
 slice-read-if1 c =
@@ -30,7 +30,7 @@ turn-requires : tie.Need-turn-requires Inv-loop μ-loop
 turn-requires c κs =
     let l = c .before .before .before in
     let p = l .before .before .before .pre in
-    (fit-like (l .loop .inv .0) (p .0), (c .before .if1 .taken, p .1))
+    (l .loop .inv .0, (p .1 .0, (c .before .if1 .taken, p .1 .1)))
 
 loop-less : tie.Need-loop-less Inv-loop μ-loop
 loop-less c = c .before .before .turn .ensures .falls

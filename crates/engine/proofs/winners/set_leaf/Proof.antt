@@ -1,22 +1,22 @@
 -- `set_leaf` meets its contract: on the way up each node is right but the parent of k, and where the loop ends, that one is right too.
-use mathlib.Core.Path.{_≡_, refl, _∙_}
-use Prim.Native.Nat.{ℕ, _+_, _*_, _/_, _<_, _≤_}
+use mathlib.Core.Path.{_≡_, refl, sym, ap, _∙_}
+use Prim.Native.Nat.{ℕ, _+_, _-_, _*_, _/_, _<_, _≤_, min}
 use native.Mathlib.Omega.{arith}
-use lib.ListN.{length, length-set}
-use lib.Seq.{getD-set-other}
+use lib.ListN.{length, getD, length-set}
+use lib.Seq.{getD-set-same, getD-set-other}
 use borrow.Author.Needs.{needs}
 use Rattle.engine.specs.Leaves.{indices}
 use Rattle.engine.specs.Trees.{leaf, Node, Put}
-use Rattle.engine.proofs.Nodes.{But, but-leaf, but-parent, but-none, put-when}
+use Rattle.engine.proofs.Nodes.{But, but-leaf, but-parent, but-none, beside-k, put-when}
 use Rattle.engine.proofs.winners.set_leaf.Statement.{statement}
 use Rattle.engine.proofs.winners.set_leaf.Tie as tie
 
 abbrev Inv-loop : tie.InvT-loop
-Inv-loop tree₀ a i v k₀ tree k =
-    (1 ≤ k) × (k < 2 * a) × (a ≤ indices) × (length tree ≡ length tree₀) × (2 * a ≤ length tree) × But a tree k × ((j : ℕ) → leaf a tree j ≡ leaf a tree₀ j)
+Inv-loop tree₀ a i v k₀ winner₀ tree k winner =
+    (1 ≤ k) × (k < 2 * a) × (a ≤ indices) × (length tree ≡ length tree₀) × (2 * a ≤ length tree) × But a tree k × ((j : ℕ) → leaf a tree j ≡ leaf a tree₀ j) × (getD tree k 0 ≡ winner)
 
 abbrev μ-loop : tie.MeasureT-loop
-μ-loop tree₀ a i v k₀ tree k = k
+μ-loop tree₀ a i v k₀ winner₀ tree k winner = k
 
 -- Where the loop ends with all nodes right.
 ended : (l : tie.At-loop Inv-loop μ-loop) → let x = l .before .before .args in ((q : ℕ) → 1 ≤ q → q < x .a → Node (l .loop .tree) q) → Put (x .a) (x .i) (x .v) (x .tree .now) (l .loop .tree)
@@ -24,6 +24,12 @@ ended l nodes =
     let x = l .before .before .args in
     let p = l .before .before .pre in
     put-when (x .a) (x .i) (x .v) (x .tree .now) (l .loop .tree) (p .0) (p .1) (l .loop .inv .3) (l .loop .inv .6) nodes
+
+-- What wins against the node beside is what the parent is to hold.
+wins : (m : tie.After-smaller Inv-loop μ-loop) → let l = m .before .before .before .loop in m .smaller .result ≡ min (getD (l .tree) (2 * (l .k / 2)) 0) (getD (l .tree) (2 * (l .k / 2) + 1) 0)
+wins m =
+    let l = m .before .before .before .loop in
+    m .smaller .ensures ∙ ap (λ (w : ℕ). min w (getD (l .tree) (4 * (l .k / 2) + 1 - l .k) 0)) (sym (l .inv .7)) ∙ beside-k (l .k) (l .tree) (l .inv .0)
 
 add-k : tie.Need-add-k Inv-loop μ-loop
 add-k c = search needs
@@ -37,29 +43,31 @@ slice-write-tree c = search needs
 loop-holds : tie.Need-loop-holds Inv-loop μ-loop
 loop-holds c =
     let x = c .before .args in
-    let p = c .before .pre in
-    (search needs, search needs, search needs, refl, simp length-set (search needs), but-leaf (x .a) (x .i) (x .v) (x .tree .now) (p .0), λ j. refl)
+    let p = c .before .pre in (
+      search needs,
+      search needs,
+      search needs,
+      refl,
+      simp length-set (search needs),
+      but-leaf (x .a) (x .i) (x .v) (x .tree .now) (p .0),
+      λ j. refl,
+      getD-set-same (x .tree .now) (x .a + x .i) (x .v) 0 (search needs),
+    )
 
-mul-x : tie.Need-mul-x Inv-loop μ-loop
-mul-x c = search needs
+mul-smaller : tie.Need-mul-smaller Inv-loop μ-loop
+mul-smaller c = search needs
 
-mul-x-2 : tie.Need-mul-x-2 Inv-loop μ-loop
-mul-x-2 c = search needs
+add-smaller : tie.Need-add-smaller Inv-loop μ-loop
+add-smaller c = search needs
 
-slice-read-x : tie.Need-slice-read-x Inv-loop μ-loop
-slice-read-x c = search needs
+sub-smaller : tie.Need-sub-smaller Inv-loop μ-loop
+sub-smaller c = search needs
 
-mul-y : tie.Need-mul-y Inv-loop μ-loop
-mul-y c = search needs
+mul-smaller-2 : tie.Need-mul-smaller-2 Inv-loop μ-loop
+mul-smaller-2 c = search needs
 
-add-y : tie.Need-add-y Inv-loop μ-loop
-add-y c = search needs
-
-mul-y-2 : tie.Need-mul-y-2 Inv-loop μ-loop
-mul-y-2 c = search needs
-
-slice-read-y : tie.Need-slice-read-y Inv-loop μ-loop
-slice-read-y c = search needs
+slice-read-smaller : tie.Need-slice-read-smaller Inv-loop μ-loop
+slice-read-smaller c = search needs
 
 smaller-requires : tie.Need-smaller-requires Inv-loop μ-loop
 smaller-requires c κs = search needs
@@ -72,8 +80,9 @@ slice-read-if1 c = search needs
 
 returns : tie.Need-returns Inv-loop μ-loop
 returns c =
-    let l = c .before .before .before .before .before .before in
-    ended l (but-none (l .before .before .args .a) (l .loop .k) (l .loop .tree) (l .loop .inv .5) (c .if1 .taken ∙ c .before .before .smaller .ensures))
+    let m = c .before .before in
+    let l = m .before .before .before in
+    ended l (but-none (l .before .before .args .a) (l .loop .k) (l .loop .tree) (l .loop .inv .5) (c .if1 .taken ∙ wins m))
 
 same-length : tie.Need-same-length Inv-loop μ-loop
 same-length c = returns c .size
@@ -90,7 +99,7 @@ loop-less c = search needs
 loop-again : tie.Need-loop-again Inv-loop μ-loop
 loop-again c =
     let m = c .before .before in
-    let l = m .before .before .before .before in
+    let l = m .before .before .before in
     let x = l .before .before .args in
     let w = m .smaller .result in
     let k = l .loop .k in (
@@ -99,8 +108,9 @@ loop-again c =
       search needs,
       length-set (l .loop .tree) (k / 2) w ∙ l .loop .inv .3,
       simp length-set (search needs),
-      but-parent (x .a) k w (l .loop .tree) (search needs) (l .loop .inv .5) (m .smaller .ensures),
+      but-parent (x .a) k w (l .loop .tree) (search needs) (l .loop .inv .5) (wins m),
       λ j. getD-set-other (l .loop .tree) (k / 2) (x .a + j) w 0 (λ e. omega (arith, e, l .loop .inv)) ∙ l .loop .inv .6 j,
+      getD-set-same (l .loop .tree) (k / 2) w 0 (search needs),
     )
 
 returns-2 : tie.Need-returns-2 Inv-loop μ-loop
@@ -121,13 +131,11 @@ set-leaf-spec =
     mul-tree
     slice-write-tree
     loop-holds
-    mul-x
-    mul-x-2
-    slice-read-x
-    mul-y
-    add-y
-    mul-y-2
-    slice-read-y
+    mul-smaller
+    add-smaller
+    sub-smaller
+    mul-smaller-2
+    slice-read-smaller
     smaller-requires
     mul-if1
     slice-read-if1

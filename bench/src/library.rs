@@ -1,0 +1,83 @@
+//! The library's calls, as a C program links them: a lent run is a pointer and a count of entries.
+
+use crate::maps::Land;
+
+extern "C" {
+    fn kyrla_range(
+        cx: i32,
+        cy: i32,
+        radius: u32,
+        efforts: *const u16,
+        effort_count: usize,
+        sx: i32,
+        sy: i32,
+        budget: u32,
+        totals: *mut u32,
+        total_count: usize,
+    ) -> i64;
+
+    fn kyrla_check(
+        cx: i32,
+        cy: i32,
+        radius: u32,
+        efforts: *const u16,
+        effort_count: usize,
+        sx: i32,
+        sy: i32,
+        budget: u32,
+        totals: *const u32,
+        total_count: usize,
+        broken: *mut u32,
+        broken_count: usize,
+    ) -> i64;
+}
+
+/// Where the library is told that a map's centre lies. The baseline works relative to the centre and need not know.
+const CENTRE: (i32, i32) = (-7, 12);
+
+/// The start of a ride, as the library is told it.
+fn start_of(land: &Land) -> (i32, i32) {
+    (CENTRE.0 + land.start.0 as i32, CENTRE.1 + land.start.1 as i32)
+}
+
+/// Fills the totals of the riding range, and answers what the library answers.
+pub fn range(land: &Land, budget: u32, totals: &mut [u32]) -> i64 {
+    let start = start_of(land);
+    // SAFETY: each pointer and count are those of a slice that is lent for the call.
+    unsafe {
+        kyrla_range(
+            CENTRE.0,
+            CENTRE.1,
+            land.radius as u32,
+            land.efforts.as_ptr(),
+            land.efforts.len(),
+            start.0,
+            start.1,
+            budget,
+            totals.as_mut_ptr(),
+            totals.len(),
+        )
+    }
+}
+
+/// Checks a totals table, and answers what the library answers.
+pub fn check(land: &Land, budget: u32, totals: &[u32], broken: &mut [u32]) -> i64 {
+    let start = start_of(land);
+    // SAFETY: as for `range`.
+    unsafe {
+        kyrla_check(
+            CENTRE.0,
+            CENTRE.1,
+            land.radius as u32,
+            land.efforts.as_ptr(),
+            land.efforts.len(),
+            start.0,
+            start.1,
+            budget,
+            totals.as_ptr(),
+            totals.len(),
+            broken.as_mut_ptr(),
+            broken.len(),
+        )
+    }
+}

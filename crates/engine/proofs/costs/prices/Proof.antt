@@ -1,0 +1,69 @@
+-- `prices` meets its contract: the costs below d are laid.
+use mathlib.Core.Path.{_≡_, refl}
+use Prim.Native.Nat.{_-_, _≤_}
+use denote.Ref.{now}
+use native.Mathlib.Omega.{arith}
+use lib.ListN.{getD}
+use Rattle.engine.specs.Steps.{priceAt, Laid}
+use Rattle.engine.proofs.StepCosts.{laid-next}
+use Rattle.engine.proofs.costs.prices.Statement.{statement}
+use Rattle.engine.proofs.costs.prices.Tie as tie
+
+abbrev Inv-loop : tie.InvT-loop
+Inv-loop efforts to costs₀ d₀ costs d = (d ≤ 6) × Laid (λ k. priceAt efforts (getD to k 0)) d costs
+
+abbrev μ-loop : tie.MeasureT-loop
+μ-loop efforts to costs₀ d₀ costs d = 6 - d
+
+loop-holds : tie.Need-loop-holds Inv-loop μ-loop
+loop-holds c = (omega arith, record { six = refl; each = λ d h. absurd (omega (arith, h)); small = λ d h. absurd (omega (arith, h)) })
+
+mul-price-at : tie.Need-mul-price-at Inv-loop μ-loop
+mul-price-at c = omega arith
+
+array-read-price-at : tie.Need-array-read-price-at Inv-loop μ-loop
+array-read-price-at c = omega arith
+
+price-at-requires : tie.Need-price-at-requires Inv-loop μ-loop
+price-at-requires c κs = tt
+
+mul-costs : tie.Need-mul-costs Inv-loop μ-loop
+mul-costs c = omega arith
+
+array-write-costs : tie.Need-array-write-costs Inv-loop μ-loop
+array-write-costs c = omega arith
+
+add-d : tie.Need-add-d Inv-loop μ-loop
+add-d c = omega arith
+
+loop-less : tie.Need-loop-less Inv-loop μ-loop
+loop-less c = omega arith
+
+loop-again : tie.Need-loop-again Inv-loop μ-loop
+loop-again c =
+    let l = c .before .before in
+    let x = l .before .before .args in
+    (omega arith, laid-next (λ k. priceAt (now (x .efforts)) (getD (x .t2) k 0)) (l .loop .costs) (l .loop .d) (c .price-at .result) (omega arith) (c .price-at .ensures .0) (c .price-at .ensures .1) (l .loop .inv .1))
+
+returns : tie.Need-returns Inv-loop μ-loop
+returns c =
+    let l = c .before in
+    let e : l .loop .d ≡ 6 = omega arith in
+    rw e at (l .loop .inv .1)
+
+pub prices-spec : {M : Type 1} → statement M
+prices-spec =
+    tie.close
+    (tie.spec
+    Inv-loop
+    μ-loop
+    loop-holds
+    mul-price-at
+    array-read-price-at
+    price-at-requires
+    mul-costs
+    array-write-costs
+    add-d
+    loop-less
+    loop-again
+    returns)

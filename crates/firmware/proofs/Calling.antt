@@ -1,0 +1,26 @@
+-- From what the calls of the field of movement have told, over the map that was made, to what the calls for C promise.
+use mathlib.Core.Path.{_≡_, ap₂, subst₂}
+use mathlib.Core.List.{List}
+use Prim.Native.Nat.{ℕ}
+use lib.IntN.{ℤ}
+use Rattle.hex.specs.Tiles.{tile}
+use Rattle.hex.specs.declared.Tile.{Tile}
+use Rattle.storage.specs.declared.Map.{Map}
+use Rattle.field_of_movement.specs.Calls.{Ranges, Checks}
+use Rattle.firmware.specs.Calls.{minus, mapAt, noted, RangeCall, CheckCall}
+
+-- A map and a tile whose coordinates were read back.
+pub read-map : {x x′ y y′ : ℤ} (radius : ℕ) → x′ ≡ x → y′ ≡ y → mapAt x′ y′ radius ≡ mapAt x y radius
+read-map radius p q = ap₂ (λ (x y : ℤ). mapAt x y radius) p q
+
+pub read-tile : {x x′ y y′ : ℤ} → x′ ≡ x → y′ ≡ y → tile x′ y′ ≡ tile x y
+read-tile p q = ap₂ tile p q
+
+module _ {map made : Map} (is : made ≡ map) (efforts : List ℕ) {start asked : Tile} (from : asked ≡ start) (budget : ℕ) where
+  pub range-call : (before after : List ℕ) (number : ℕ) (answer : ℤ) → answer ≡ minus number → Ranges made efforts asked budget before after number → RangeCall map efforts start budget before after answer
+  range-call before after number answer e told =
+      record { number = number; answers = e; ranges = subst₂ (λ (m : Map) (s : Tile). Ranges m efforts s budget before after number) is from told }
+
+  pub check-call : (totals before after : List ℕ) (number index : ℕ) (answer : ℤ) → answer ≡ minus number → Checks made efforts asked budget totals number index → after ≡ noted number index before → CheckCall map efforts start budget totals before after answer
+  check-call totals before after number index answer e told notes =
+      record { number = number; index = index; answers = e; checks = subst₂ (λ (m : Map) (s : Tile). Checks m efforts s budget totals number index) is from told; notes = notes }

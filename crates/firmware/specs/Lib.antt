@@ -1,0 +1,2 @@
+-- The definitions of what the calls for C promise.
+pub mod Calls
