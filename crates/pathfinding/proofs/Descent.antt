@@ -10,13 +10,13 @@ use Rattle.paths.specs.Lands.{Land}
 use Rattle.paths.specs.Tables.{at}
 use Rattle.routes.specs.Descents.{Taken, Descent}
 use Rattle.routes.specs.Grounds.{Ground, OpenTile}
-use Rattle.routes.specs.Ranks.{multiplier, noRank, RankOf, near, far, Ranks, Fits}
+use Rattle.routes.specs.Ranks.{multiplier, noRank, RankOf, near, far, Ranks}
 use Rattle.routes.specs.Turned.{turned}
 use Rattle.routes.proofs.Descending.{taken, Falls, taken-falls, descent-over, descent-next}
 use Rattle.routes.proofs.DownIsBest.{down-best}
 use Rattle.routes.proofs.RankTables.{ranks-sums}
 use Rattle.routes.proofs.Turning.{route-start, route-end}
-use Rattle.hex.specs.Limits.{barred, radiusLimit}
+use Rattle.hex.specs.Limits.{barred}
 use Rattle.hex.specs.declared.Tile.{Tile}
 use Rattle.runs.specs.Laid.{Laid}
 use Rattle.runs.specs.Runs.{entries, Put}
@@ -25,17 +25,14 @@ use Rattle.runs.proofs.Written.{written-none}
 use Rattle.storage.specs.Leaves.{nearIn, tileAtIndex}
 use Rattle.storage.specs.Maps.{areaOf}
 use Rattle.storage.specs.declared.Map.{Map}
-use Rattle.storage.proofs.Maps.{fine, area-small}
+use Rattle.storage.proofs.Maps.{fine}
 use Rattle.terrain.specs.GroundOfMap.{groundOf}
+use Rattle.terrain.proofs.RoutesOfMap.{ground-fits}
 use Rattle.pathfinding.specs.Ways.{Ranked, tilesDown}
 
 -- The land whose least sums from the end are the ranks.
 abbrev landDown : Map → List ℕ → Land
 landDown m efforts = turned (groundOf m efforts) multiplier
-
--- A map's ground is small enough for ranks.
-pub ground-fits : (m : Map) (efforts : List ℕ) → m .radius ≤ radiusLimit → Fits (groundOf m efforts)
-ground-fits m efforts small = record { tiles = omega (arith, area-small (m .radius) small); efforts = omega arith }
 
 -- The way has one tile more than steps.
 pub tiles-down-count : (m : Map) (efforts : List ℕ) (start : ℕ) (ds : List ℕ) → length (tilesDown m efforts start ds) ≡ suc (length ds)
@@ -62,7 +59,7 @@ module _ (m : Map) (efforts ranks : List ℕ) (end : ℕ) (K : Ranks (groundOf m
     pub to-take : (d : ℕ) × Taken (landDown m efforts) (at ranks) u d
     to-take =
         let o = both-open u (r .on) (r .has) in
-        taken (landDown m efforts) (at ranks) end noRank (o .1 .on) (ranks-sums (ground-fits m efforts (fine m (r .fine) .small)) (o .1) K) u (r .on) (r .has) away
+        taken (landDown m efforts) (at ranks) end noRank (o .1 .on) (ranks-sums (ground-fits m (fine m (r .fine) .small) efforts) (o .1) K) u (r .on) (r .has) away
 
     pub goes-down : (v : ℕ) → ((d : ℕ) → Taken (landDown m efforts) (at ranks) u d → v ≡ nearIn m u d) → Ranked m efforts ranks v × (getD ranks v 0 < getD ranks u 0)
     goes-down v f =
@@ -85,7 +82,7 @@ module _ (m : Map) (efforts ranks : List ℕ) (end : ℕ) (K : Ranks (groundOf m
 
   -- The rank tells how many tiles the way has.
   pub way-length : (start : ℕ) → Ranked m efforts ranks start → (ds : List ℕ) → Descent (landDown m efforts) (at ranks) end start ds → length (tilesDown m efforts start ds) ≡ getD ranks start 0 % multiplier + 1
-  way-length start r ds D = omega (arith, tiles-down-count m efforts start ds, down-best (ground-fits m efforts (fine m (r .fine) .small)) K (r .on) (r .has) D .steps)
+  way-length start r ds D = omega (arith, tiles-down-count m efforts start ds, down-best (ground-fits m (fine m (r .fine) .small) efforts) K (r .on) (r .has) D .steps)
 
 -- What is written and what is left, over the turns.
 module _ (m : Map) (efforts ranks : List ℕ) (end : ℕ) where

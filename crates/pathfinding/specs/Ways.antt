@@ -9,7 +9,7 @@ use lib.ListN.{length, getD}
 use Rattle.paths.specs.Tables.{at}
 use Rattle.routes.specs.Descents.{Descent}
 use Rattle.routes.specs.Ranks.{multiplier, noRank}
-use Rattle.routes.specs.Routes.{NoRoute, BestRoute, tilesOf}
+use Rattle.routes.specs.Routes.{tilesOf}
 use Rattle.routes.specs.Turned.{turned}
 use Rattle.hex.specs.Limits.{barred}
 use Rattle.hex.specs.Refusals.{noOpenPath}
@@ -44,7 +44,7 @@ abbrev pub LaysDown : Map → List ℕ → List ℕ → ℕ → ℕ → List ℤ
 LaysDown map efforts ranks start end entry next exit =
     (ds : List ℕ) → Descent (turned (groundOf map efforts) multiplier) (at ranks) end start ds → Laid entry 0 (tilesDown map efforts start ds) next exit
 
--- What is answered and left in the run: 8 if there is no route; else the best one, or 7.
-pub data Leads (map : Map) (efforts : List ℕ) (start end : ℕ) (entry : List ℤ) (r : ListAnswer) (exit : List ℤ) : Type 0 where
-  lost : NoRoute (groundOf map efforts) end start → Lists noOpenPath [] entry r exit → Leads map efforts start end entry r exit
-  led : {ds : List ℕ} {v : ℕ} → BestRoute (groundOf map efforts) start end ds v → Lists 0 (tilesDown map efforts start ds) entry r exit → Leads map efforts start end entry r exit
+-- What is answered and left in the run: 8 if the start has no rank; else the tiles of the way down from it, or 7.
+pub data TellsWay (map : Map) (efforts ranks : List ℕ) (start end : ℕ) (entry : List ℤ) (r : ListAnswer) (exit : List ℤ) : Type 0 where
+  lost : getD ranks start 0 ≡ noRank → Lists noOpenPath [] entry r exit → TellsWay map efforts ranks start end entry r exit
+  led : getD ranks start 0 < noRank → (ds : List ℕ) → Descent (turned (groundOf map efforts) multiplier) (at ranks) end start ds → Lists 0 (tilesDown map efforts start ds) entry r exit → TellsWay map efforts ranks start end entry r exit

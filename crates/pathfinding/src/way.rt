@@ -19,7 +19,7 @@ ghost use Rattle.routes.specs.Turned.{turned};
 ghost use Rattle.storage.specs.Leaves.{nearIn, tileAtIndex};
 ghost use Rattle.storage.specs.Maps.{mapRefusal, areaOf};
 ghost use Rattle.terrain.specs.GroundOfMap.{groundOf};
-ghost use Rattle.pathfinding.specs.Ways.{Ranked, offerOf, LaysDown, Leads};
+ghost use Rattle.pathfinding.specs.Ways.{Ranked, offerOf, LaysDown, TellsWay};
 
 // What one unit of cost counts in a rank.
 const MULTIPLIER: u64 = 65_536;
@@ -114,7 +114,7 @@ pub(crate) fn led(
     requires { ⌜ length (now ranks) ≡ areaOf (map .radius) ⌝ }
     requires { ⌜ start < areaOf (map .radius) ⌝ }
     requires { ⌜ Ranks (groundOf map (now efforts)) end (at (now ranks)) ⌝ }
-    ensures { λ r. ⌜ Leads map (now (efforts .entry)) start end (now (run .entry)) r (now (run .exit)) ⌝ }
+    ensures { λ r. ⌜ TellsWay map (now (efforts .entry)) (now (ranks .entry)) start end (now (run .entry)) r (now (run .exit)) ⌝ }
 {
     let rank = ranks[start];
     if rank == NO_RANK {

@@ -1,7 +1,6 @@
 -- The neighbour rule at a tile is the theory's rule at its index.
 use mathlib.Core.Path.{_≡_, refl, sym, ap, ap₂, _∙_}
 use mathlib.Core.Bool.{true}
-use mathlib.Core.Logic.{_↔_}
 use mathlib.Core.List.{List}
 use Prim.Native.Nat.{ℕ, _+_, _≤_, _<_}
 use native.Mathlib.Decide.{ℕ-discrete, decLt, decLe}
@@ -9,13 +8,13 @@ use native.Mathlib.Omega.{arith}
 use Rattle.paths.specs.Lands.{Land, Step}
 use Rattle.paths.specs.NeighborRule.{best, want}
 use Rattle.paths.specs.Tables.{at}
-use Rattle.paths.proofs.Offers.{best-le, best-offer, Maker, maker, want-home, want-in, want-out}
+use Rattle.paths.proofs.Offers.{best-le, best-offer, maker, want-home, want-in, want-out}
 use Rattle.hex.specs.Limits.{barred, noWay, radiusLimit}
 use Rattle.hex.specs.Tiles.{distanceOf}
 use Rattle.hex.specs.declared.Tile.{Tile}
 use Rattle.storage.specs.Hexmod.{indexIn}
 use Rattle.storage.specs.Leaves.{nearIn, tileAtIndex}
-use Rattle.storage.specs.Maps.{ofMap, areaOf}
+use Rattle.storage.specs.Maps.{ofMap}
 use Rattle.storage.specs.declared.Map.{Map}
 use Rattle.storage.proofs.Back.{index-below, tile-of-map, tile-has-index}
 use Rattle.storage.proofs.Near.{same-index, near-apart, apart-near}
@@ -128,16 +127,6 @@ module _ (map : Map) (small : map .radius ≤ radiusLimit) (efforts : List ℕ) 
 
     -- The two rules agree.
     module _ (top : budget ≤ noWay) where
-      pub keeps-of : entryAt map totals t ≡ want G (at totals) (indexIn map start) budget (indexIn map t) → Keeps map efforts start budget totals t
-      unfolding wanted
-      keeps-of e =
-          record {
-            home = λ z. e ∙ wants-home z;
-            shut = λ n z. e ∙ wants-none n (λ h l. offers h .free z);
-            within = λ n o x S l. let q = smallest-offers x o S l top in e ∙ wants-offer n (omega arith) ∙ q;
-            otherwise = λ n o f. e ∙ wants-none n (λ h l. let k = offers h in omega (arith, k .is, f (entryAt map totals (k .of)) (smallest-of k h)));
-          }
-
       pub of-keeps : Keeps map efforts start budget totals t → entryAt map totals t ≡ want G (at totals) (indexIn map start) budget (indexIn map t)
       unfolding wanted
       of-keeps K = go (ℕ-discrete (indexIn map t) (indexIn map start)) (ℕ-discrete (entryAt map efforts t) barred) (decLt offered noWay) (decLe offered budget)
@@ -173,3 +162,13 @@ module _ (map : Map) (small : map .radius ≤ radiusLimit) (efforts : List ℕ) 
           go (no e) (no p) (no q) r =
               let n : t ≡ start → ⊥ = λ z. e (ap (indexIn map) z) in
               none n p (λ h l. q h) (ℕ-discrete (entryAt map totals t) noWay) ∙ sym (wants-none n (λ h l. q h))
+
+      pub keeps-of : entryAt map totals t ≡ want G (at totals) (indexIn map start) budget (indexIn map t) → Keeps map efforts start budget totals t
+      unfolding wanted
+      keeps-of e =
+          record {
+            home = λ z. e ∙ wants-home z;
+            shut = λ n z. e ∙ wants-none n (λ h l. offers h .free z);
+            within = λ n o x S l. let q = smallest-offers x o S l top in e ∙ wants-offer n (omega arith) ∙ q;
+            otherwise = λ n o f. e ∙ wants-none n (λ h l. let k = offers h in omega (arith, k .is, f (entryAt map totals (k .of)) (smallest-of k h)));
+          }

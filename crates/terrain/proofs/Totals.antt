@@ -1,14 +1,14 @@
 -- The table of least sums, in tiles, is the right table over the land of the map; and there is one.
-use mathlib.Core.Path.{_≡_, refl, sym, ap, _∙_}
+use mathlib.Core.Path.{_≡_}
 use mathlib.Core.Bool.{true}
 use mathlib.Core.Logic.{_↔_}
 use mathlib.Core.List.{List}
-use Prim.Native.Nat.{ℕ, _+_, _*_, _-_, _≤_, _<_}
+use Prim.Native.Nat.{ℕ, _*_, _-_, _≤_, _<_}
 use native.Mathlib.Nat.{mul-le-mul-right}
 use native.Mathlib.Decide.{ℕ-discrete, decLt}
 use native.Mathlib.Omega.{arith}
 use lib.ListN.{length, getD}
-use Rattle.paths.specs.Lands.{Step, Walk, Least}
+use Rattle.paths.specs.Lands.{Walk, Least}
 use Rattle.paths.specs.Tables.{at, Right, Plain, Capped}
 use Rattle.paths.proofs.PlainWords.{right-iff-plain, right-lists}
 use Rattle.hex.specs.Limits.{barred, noWay, radiusLimit}

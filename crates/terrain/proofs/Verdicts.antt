@@ -7,8 +7,7 @@ use Prim.Native.Nat.{ℕ, _≤_, _<_}
 use native.Mathlib.Decide.{decLt}
 use native.Mathlib.Omega.{arith}
 use lib.ListN.{length}
-use Rattle.paths.specs.Lands.{Land}
-use Rattle.paths.specs.NeighborRule.{want, Rule}
+use Rattle.paths.specs.NeighborRule.{want}
 use Rattle.paths.specs.Tables.{at}
 use Rattle.paths.proofs.RuleIsRight.{rule-iff-right}
 use Rattle.hex.specs.Limits.{noWay, radiusLimit}

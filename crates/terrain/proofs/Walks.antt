@@ -2,12 +2,12 @@
 use mathlib.Core.Path.{_≡_, refl, sym, ap, ap₂, _∙_}
 use mathlib.Core.Bool.{Bool, true, cond}
 use mathlib.Core.List.{List, [], _∷_, reverseAux}
-use Prim.Native.Nat.{ℕ, _+_, _%_, _≤_, _<_}
+use Prim.Native.Nat.{ℕ, _+_, _≤_, _<_}
 use native.Mathlib.Nat.{add-zero, zero-add}
 use native.Mathlib.Omega.{arith}
 use lib.ListN.{getD}
 use borrow.Author.Tests.{eq-eqb, ne-eqb}
-use Rattle.paths.specs.Lands.{Land, Step, Walk, here, then, Least}
+use Rattle.paths.specs.Lands.{Land, Step, Walk, here, Least}
 use Rattle.paths.proofs.Fronts.{Route, there, first, onto, unroll}
 use Rattle.hex.specs.Limits.{barred, radiusLimit}
 use Rattle.hex.specs.Tiles.{distanceOf}

@@ -1,5 +1,7 @@
--- The definitions of paths over a map with efforts, of the table of their least sums, of the neighbour rule, of the land and the ground of the map, and of how a call is judged.
+-- The definitions of paths and routes over a map with efforts, of the tables of their least sums and of their ranks, of the neighbour rule, of the land and the ground of the map, and of
+-- how a call is judged.
 pub mod TilePaths
+pub mod TileRoutes
 pub mod NeighborRule
 pub mod LandOfMap
 pub mod GroundOfMap

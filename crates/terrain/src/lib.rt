@@ -1,5 +1,5 @@
-// A map with its efforts. `specs/` has paths over its tiles, their sums, the table of least sums and the neighbour rule; `proofs/` shows that they are what the theory of
-// `paths` says of the land of the map. The calls judge what every call over tables judges, and say what a step costs.
+// A map with its efforts. `specs/` has paths over its tiles, their sums, the table of least sums and the neighbour rule, and routes, the best of them and the ranks; `proofs/`
+// shows that they are what the theories of `paths` and `routes` say of the map. The calls judge what every call over tables judges, and say what a step costs.
 
 ghost use mathlib.Core.Path.{_≡_};
 ghost use Prim.Native.Nat.{_≤_};
