@@ -34,6 +34,12 @@ pub fn of_maps(maps: &Sheet) -> Sheet {
     kept(maps, heading, map_named)
 }
 
+/// The lines of the sheet of ranges that are kept, with all its comments. No rule names one.
+pub fn of_ranges(ranges: &Sheet) -> Sheet {
+    let heading = "A part of the answers on ranges, chosen by fixed rules.";
+    kept(ranges, heading, |_| false)
+}
+
 /// The lines of a sheet that a rule names, and of the others each one after a fixed number.
 fn kept(whole: &Sheet, heading: &str, named: fn(&[i64]) -> bool) -> Sheet {
     let mut sheet = Sheet::new(heading);

@@ -13,6 +13,7 @@ mod mapping;
 mod maps;
 mod offset;
 mod places;
+mod ranges;
 mod rings;
 mod samples;
 mod sheet;
@@ -64,6 +65,18 @@ fn module4() -> Sheet {
     sheet
 }
 
+/// The questions about the riding range that the paper accepts, and the tables that the totals
+/// check is asked about.
+fn module5() -> Sheet {
+    let mut sheet = Sheet::new(
+        "Answers of the crate hexx 0.25.0 on the riding range, and verdicts of the neighbour rule.\n\
+         The map is three words, the start two; the lengths of the two tables stand before them.\n\
+         The crate answers a set of tiles: a total is the smallest budget whose set has the tile.",
+    );
+    ranges::ask(&mut sheet);
+    sheet
+}
+
 /// The questions on which the paper decides against the crate.
 fn differences() -> Sheet {
     let mut sheet = Sheet::new(
@@ -77,6 +90,7 @@ fn differences() -> Sheet {
     rings::differences(&mut sheet);
     counts::differences(&mut sheet);
     maps::differences(&mut sheet);
+    ranges::differences(&mut sheet);
     sheet
 }
 
@@ -86,12 +100,16 @@ fn write_all(folder: &Path) {
     let sample3 = excerpt::of_lists(&module3);
     let module4 = module4();
     let sample4 = excerpt::of_maps(&module4);
+    let module5 = module5();
+    let sample5 = excerpt::of_ranges(&module5);
     for (name, sheet) in [
         ("module12.txt", module12()),
         ("module3.txt", module3),
         ("sample3.txt", sample3),
         ("module4.txt", module4),
         ("sample4.txt", sample4),
+        ("module5.txt", module5),
+        ("sample5.txt", sample5),
         ("differences.txt", differences()),
     ] {
         if let Err(cause) = std::fs::write(folder.join(name), sheet.text()) {

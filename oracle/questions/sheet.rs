@@ -24,10 +24,14 @@ pub const TO_INDEX: i64 = 22;
 pub const FROM_INDEX: i64 = 23;
 pub const TO_ROW_COLUMN: i64 = 24;
 pub const FROM_ROW_COLUMN: i64 = 25;
+pub const RIDING_RANGE: i64 = 30;
+pub const TOTALS_CHECK: i64 = 31;
 
-/// The refusal number of an accepted question, and of what is not of the map.
+/// The refusal number of an accepted question, of what is not of the map, and of a table that is
+/// not right.
 pub const ACCEPTED: i64 = 0;
 pub const NOT_OF_MAP: i64 = 5;
+pub const NOT_RIGHT: i64 = 9;
 
 pub struct Sheet {
     text: String,

@@ -1,0 +1,2 @@
+-- The definition of what the questions take and answer.
+pub mod Taking
