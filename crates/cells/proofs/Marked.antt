@@ -1,5 +1,5 @@
 -- Every marked cell holds of the definitions: lists, counts and the ways there by computing them, the ways back of a map by the law that they follow, a refusal by the law
--- that says when there is no tile.
+-- that says when there is no tile, and tables and routes over paths by what `terrain` shows of them.
 use mathlib.Core.Path.{_≡_, refl}
 use Prim.Native.Nat.{ℕ}
 use lib.IntN.{pos}
@@ -21,6 +21,7 @@ use Rattle.storage.specs.Hexmod.{index, indexIn, indexOf, toHexmod}
 use Rattle.storage.specs.Maps.{mapRefusal, ofMap, toPlace, FromPlace}
 use Rattle.storage.specs.declared.Map.{Map}
 use Rattle.storage.proofs.RoundTrip.{there-then-back}
+use Rattle.terrain.proofs.Marked.{range-of-four, range-of-three, route-round}
 use Rattle.cells.specs.Marked.{Holds, indexed, in-row, marked, AllHold}
 
 -- What a tile has in a map is computed, and the way back follows.
@@ -36,4 +37,4 @@ in-row-holds map row column t = there-and-back (rowColumn 0 0) map (rowColumnIn 
 pub every-marked-cell-holds : AllHold marked
 unfolding quotient remainder stepOf withinLimit distanceOf span doubledOf toGrid slantOf offsetOf gather wedgeCount along corner ring edge cornerEdge mapRefusal ofMap toPlace indexIn rowIn columnIn
 every-marked-cell-holds =
-    (refl, (refl, (refl, (refl, (refl, (refl, (refl, (refl, (indexed-holds _ _ _ refl, (indexed-holds _ _ _ refl, (indexed-holds _ _ _ refl, (indexed-holds _ _ _ refl, (indexed-holds _ _ _ refl, (indexed-holds _ _ _ refl, (indexed-holds _ _ _ refl, (indexed-holds _ _ _ refl, (indexed-holds _ _ _ refl, (refl, (refl, (refl, (refl, (from-known refl (TheTile.none (odd-has-no-tile 0 (pair (pos 1) (pos 0)) refl .0 refl)), (in-row-holds _ _ _ _ refl, (in-row-holds _ _ _ _ refl, tt))))))))))))))))))))))))
+    (refl, (refl, (refl, (refl, (refl, (refl, (refl, (refl, (indexed-holds _ _ _ refl, (indexed-holds _ _ _ refl, (indexed-holds _ _ _ refl, (indexed-holds _ _ _ refl, (indexed-holds _ _ _ refl, (indexed-holds _ _ _ refl, (indexed-holds _ _ _ refl, (indexed-holds _ _ _ refl, (indexed-holds _ _ _ refl, (refl, (refl, (refl, (refl, (from-known refl (TheTile.none (odd-has-no-tile 0 (pair (pos 1) (pos 0)) refl .0 refl)), (in-row-holds _ _ _ _ refl, (in-row-holds _ _ _ _ refl, (range-of-four, (range-of-three, (route-round, tt)))))))))))))))))))))))))))

@@ -16,6 +16,8 @@ use Rattle.rings.specs.Rings.{ring, edge, cornerWedge}
 use Rattle.storage.specs.Hexagonal.{rowColumn, toRowColumn, FromRowColumn}
 use Rattle.storage.specs.Hexmod.{index, toHexmod, FromHexmod}
 use Rattle.storage.specs.declared.Map.{Map}
+use Rattle.terrain.specs.TilePaths.{LeastTotals}
+use Rattle.terrain.specs.TileRoutes.{BestTiles}
 
 -- What is asked, and then what is told.
 pub data Cell : Type 0 where
@@ -28,6 +30,8 @@ pub data Cell : Type 0 where
   wedge-count-of : ℕ → ℕ → Cell
   indexed : Map → ℕ → Tile → Cell
   in-row : Map → ℕ → ℕ → Tile → Cell
+  ranged : Map → List ℕ → Tile → ℕ → List ℕ → Cell
+  led : Map → List ℕ → Tile → Tile → List Tile → Cell
 
 -- A cell holds if the definition tells what it says.
 abbrev pub Holds : Cell → Type 0
@@ -40,6 +44,8 @@ Holds (corner-wedge-of centre first last direction tiles) = cornerWedge centre f
 Holds (wedge-count-of n count) = wedgeCount n ≡ count
 Holds (indexed map i t) = (toHexmod map t ≡ accepted (index i)) × FromHexmod map (index i) (accepted t)
 Holds (in-row map row column t) = (toRowColumn map t ≡ accepted (rowColumn row column)) × FromRowColumn map (rowColumn row column) (accepted t)
+Holds (ranged map efforts start budget totals) = LeastTotals map efforts start budget totals
+Holds (led map efforts start end tiles) = BestTiles map efforts start end tiles
 
 -- A map round (0, 0).
 abbrev pub disc : ℕ → Map
@@ -82,6 +88,11 @@ marked =
     -- M11: of radius 1, (0, -1) is row 0, column 0 and (0, 1) row 2, column 1, there and back.
     ∷ in-row (disc 1) 0 0 (tile (pos 0) (negsuc 0))
     ∷ in-row (disc 1) 2 1 (tile (pos 0) (pos 1))
+    -- M12: of radius 1, from (0, 0), which is barred, the others 0 but index 5, which has 3: within a budget of 4, and within 3, where no way leads to index 5.
+    ∷ ranged (disc 1) (65535 ∷ 0 ∷ 0 ∷ 0 ∷ 0 ∷ 3 ∷ 0 ∷ []) (tile (pos 0) (pos 0)) 4 (0 ∷ 1 ∷ 1 ∷ 1 ∷ 1 ∷ 4 ∷ 1 ∷ [])
+    ∷ ranged (disc 1) (65535 ∷ 0 ∷ 0 ∷ 0 ∷ 0 ∷ 3 ∷ 0 ∷ []) (tile (pos 0) (pos 0)) 3 (0 ∷ 1 ∷ 1 ∷ 1 ∷ 1 ∷ 4294967295 ∷ 1 ∷ [])
+    -- M13: of radius 1, the centre 5, the others 0: from (1, 0) to (-1, 0).
+    ∷ led (disc 1) (5 ∷ 0 ∷ 0 ∷ 0 ∷ 0 ∷ 0 ∷ 0 ∷ []) (tile (pos 1) (pos 0)) (tile (negsuc 0) (pos 0)) (tile (pos 1) (pos 0) ∷ tile (pos 1) (negsuc 0) ∷ tile (pos 0) (negsuc 0) ∷ tile (negsuc 0) (pos 0) ∷ [])
     ∷ []
 
 -- The statement: every cell of a table holds.
