@@ -13,9 +13,6 @@ use hexx::{EdgeDirection, Hex};
 const BARRED: u16 = u16::MAX;
 const NO_WAY: u32 = u32::MAX;
 
-/// What the entries of a lent table hold before the riding range is asked for.
-const UNTOUCHED: i64 = 7777;
-
 /// The largest budget that is asked: the crate's own work grows with it on every map.
 const BUDGET: u32 = 180;
 
@@ -41,36 +38,41 @@ impl Ride {
     /// The tiles of the map in the order of their indices.
     fn tiles(&self) -> Vec<Hex> {
         let indices: Vec<u32> = (0..Hex::range_count(self.radius)).collect();
-        self.by_tile(&indices).iter().map(|(tile, _)| tile).collect()
+        self.by_tile(&indices)
+            .iter()
+            .map(|(tile, _)| tile)
+            .collect()
     }
 
     /// The totals that follow from the crate's answers for every budget from 0 on. Once every
-    /// open tile has its total, only the budget itself is still asked.
+    /// tile that may be reached has its total, only the budget itself is still asked.
     fn totals(&self) -> Totals {
-        let indices: Vec<u32> = (0..Hex::range_count(self.radius)).collect();
-        let indices = self.by_tile(&indices);
+        let tiles = self.tiles();
         let efforts = self.by_tile(&self.efforts);
-        let open = |tile| efforts.get(tile).copied().filter(|&effort| effort != BARRED);
-        let all = self.tiles().into_iter().filter(|&t| t == self.start || open(t).is_some());
-        let all = all.count();
-        let mut totals = vec![NO_WAY; self.efforts.len()];
-        let mut found = 0;
+        let cost = |tile: Hex| {
+            efforts
+                .get(tile)
+                .filter(|&&effort| effort != BARRED)
+                .copied()
+        };
+        let may_be_reached = |tile: Hex| tile == self.start || cost(tile).is_some();
+        let mut totals = vec![NO_WAY; tiles.len()];
         for budget in 0..=self.budget {
-            if found == all && budget < self.budget {
+            let mut entries = tiles.iter().zip(&totals);
+            let done = entries.all(|(&tile, &total)| total != NO_WAY || !may_be_reached(tile));
+            if done && budget < self.budget {
                 continue;
             }
-            let set = field_of_movement(self.start, budget, |tile| open(tile).map(u32::from));
-            for &tile in &set {
-                let Some(&index) = indices.get(tile) else {
-                    stop("the crate's range has a tile that is not of the map");
-                };
-                if totals[index as usize] == NO_WAY {
-                    totals[index as usize] = budget;
-                    found += 1;
-                }
+            let set = field_of_movement(self.start, budget, |tile| cost(tile).map(u32::from));
+            if !set.iter().all(|&tile| may_be_reached(tile)) {
+                stop("the crate's range has a barred tile, or one that is not of the map");
             }
-            if set.len() != found {
-                stop("the crate's range of a larger budget lacks a tile");
+            for (tile, total) in tiles.iter().zip(&mut totals) {
+                match set.contains(tile) {
+                    true => *total = budget.min(*total),
+                    false if *total == NO_WAY => (),
+                    false => stop("the crate's range of a larger budget lacks a tile"),
+                }
             }
         }
         totals
@@ -80,28 +82,41 @@ impl Ride {
     /// of the crate's range and nothing of the library is used.
     fn broken(&self, totals: &[u32]) -> Option<usize> {
         let by_tile = self.by_tile(totals);
-        self.tiles().into_iter().zip(totals).enumerate().find_map(|(index, (tile, &total))| {
-            let smallest = EdgeDirection::ALL_DIRECTIONS
-                .iter()
-                .filter_map(|&direction| by_tile.get(tile + direction.into_hex()).copied())
-                .filter(|&entry| entry != NO_WAY)
-                .min();
-            let sum = smallest.map(|entry| u64::from(entry) + u64::from(self.efforts[index]) + 1);
-            let rule = match sum {
-                _ if tile == self.start => 0,
-                _ if self.efforts[index] == BARRED => u64::from(NO_WAY),
-                Some(sum) if sum <= u64::from(self.budget) => sum,
-                _ => u64::from(NO_WAY),
-            };
-            (u64::from(total) != rule).then_some(index)
-        })
+        self.tiles()
+            .into_iter()
+            .zip(totals)
+            .enumerate()
+            .find_map(|(index, (tile, &total))| {
+                let smallest = EdgeDirection::ALL_DIRECTIONS
+                    .iter()
+                    .filter_map(|&direction| by_tile.get(tile + direction.into_hex()).copied())
+                    .filter(|&entry| entry != NO_WAY)
+                    .min();
+                let sum =
+                    smallest.map(|entry| u64::from(entry) + u64::from(self.efforts[index]) + 1);
+                let rule = match sum {
+                    _ if tile == self.start => 0,
+                    _ if self.efforts[index] == BARRED => u64::from(NO_WAY),
+                    Some(sum) if sum <= u64::from(self.budget) => sum,
+                    _ => u64::from(NO_WAY),
+                };
+                (u64::from(total) != rule).then_some(index)
+            })
     }
 
     fn words(&self, kind: i64) -> Vec<i64> {
         let [x, y] = self.centre.to_array().map(i64::from);
         let [at, beside] = self.start.to_array().map(i64::from);
         let area = self.efforts.len() as i64;
-        let mut words = vec![kind, x, y, self.radius.into(), at, beside, self.budget.into()];
+        let mut words = vec![
+            kind,
+            x,
+            y,
+            self.radius.into(),
+            at,
+            beside,
+            self.budget.into(),
+        ];
         words.extend([area, area]);
         words.extend(self.efforts.iter().map(|&effort| i64::from(effort)));
         words
@@ -207,7 +222,11 @@ fn ride(generator: &mut Generator, centre: Hex, turn: usize) -> Ride {
 /// low, no way where there is one, a number where there is no way, the start not 0, and zeros
 /// throughout. Where a turn would leave the table as it is, its start is made 1.
 fn damaged(generator: &mut Generator, turn: usize, ride: &Ride, totals: &[u32]) -> Totals {
-    let start = ride.tiles().iter().position(|&tile| tile == ride.start).unwrap();
+    let start = ride
+        .tiles()
+        .iter()
+        .position(|&tile| tile == ride.start)
+        .unwrap();
     let mut table = totals.to_vec();
     let some: Vec<usize> = (0..table.len())
         .filter(|&at| (table[at] == NO_WAY) == (turn % 6 == 3))
@@ -253,7 +272,9 @@ pub fn ask(sheet: &mut Sheet) {
         }
         ride.check(sheet, totals);
     }
-    sheet.comment("The same tables with damage, and the lowest index that breaks the neighbour rule.");
+    sheet.comment(
+        "The same tables with damage, and the lowest index that breaks the neighbour rule.",
+    );
     for (turn, (ride, totals)) in asked.iter().enumerate() {
         let table = damaged(generator, turn, ride, totals);
         if ride.broken(&table).is_none() {
@@ -263,7 +284,7 @@ pub fn ask(sheet: &mut Sheet) {
     }
 }
 
-/// Writes the crate's answer on a ride that the paper refuses.
+/// Writes the crate's answer on a flat ride that the paper refuses.
 fn refused(sheet: &mut Sheet, centre: Hex, radius: u32, start: Hex) {
     let ride = Ride {
         centre,
@@ -272,20 +293,17 @@ fn refused(sheet: &mut Sheet, centre: Hex, radius: u32, start: Hex) {
         budget: 2,
         efforts: vec![0; Hex::range_count(radius) as usize],
     };
-    let efforts = ride.by_tile(&ride.efforts);
-    let totals: Totals = ride
-        .tiles()
-        .into_iter()
-        .map(|tile| {
-            (0..=ride.budget)
-                .find(|&budget| {
-                    field_of_movement(start, budget, |t| efforts.get(t).map(|&e| e.into()))
-                        .contains(&tile)
-                })
-                .unwrap_or(NO_WAY)
-        })
-        .collect();
-    ride.range(sheet, &totals);
+    ride.range(sheet, &ride.totals());
+}
+
+/// Checks that the crate enters a tile whose cost is the largest number as if it cost nothing.
+/// No line can ask this, since an effort has 16 bits.
+fn check_wrapped_cost() {
+    let beside = Hex::new(1, 0);
+    let set = field_of_movement(Hex::ZERO, 1, |tile| (tile == beside).then_some(u32::MAX));
+    if !set.contains(&beside) {
+        stop("a cost listed as a difference does not wrap round");
+    }
 }
 
 pub fn differences(sheet: &mut Sheet) {
@@ -300,4 +318,9 @@ pub fn differences(sheet: &mut Sheet) {
          The paper refuses it with number 1 and leaves the table as it was.",
     );
     refused(sheet, Hex::new(LIMIT + 1, 0), 1, Hex::new(LIMIT + 1, 0));
+    check_wrapped_cost();
+    sheet.comment(
+        "A cost of 4294967295, which no effort is and no line can hold: the crate adds 1 in 32 bits,\n\
+         so that the step is free, and enters the tile with budget 1.",
+    );
 }
