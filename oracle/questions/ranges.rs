@@ -14,7 +14,7 @@ const BARRED: u16 = u16::MAX;
 const NO_WAY: u32 = u32::MAX;
 
 /// The largest budget that is asked: the crate's own work grows with it on every map.
-const BUDGET: u32 = 180;
+pub const BUDGET: u32 = 180;
 
 /// A map with its efforts by index, a start and a budget.
 struct Ride {
@@ -145,8 +145,12 @@ impl Ride {
 /// How many rides are asked.
 const RIDES: usize = 2400;
 
+/// One ride of this many has the largest budget and steep ground, so that its totals are large.
+/// It is a multiple of the nine kinds of ground.
+const STEEP: usize = 396;
+
 /// The ground of a ride over the given tiles. What it is like goes by turns: flat, gentle,
-/// rough, gentle with barred tiles, mostly barred, a wall across the map with a gap or without,
+/// rough or steep, gentle with barred tiles, mostly barred, a wall across the map with a gap or without,
 /// a corridor from the start, and gentle with tiles too dear for every budget.
 fn ground(generator: &mut Generator, turn: usize, tiles: &[Hex], start: Hex) -> Vec<u16> {
     let wall = tiles[generator.between(0, tiles.len() as i32 - 1) as usize].y;
@@ -158,6 +162,7 @@ fn ground(generator: &mut Generator, turn: usize, tiles: &[Hex], start: Hex) -> 
         match turn % 9 {
             0 => 0,
             1 => gentle,
+            2 if turn % STEEP == 2 => generator.between(0, 60) as u16,
             2 => generator.between(0, 12) as u16,
             3 if chance < 3 => BARRED,
             4 if chance < 5 => BARRED,
@@ -188,10 +193,10 @@ fn corridor(generator: &mut Generator, tiles: &[Hex], start: Hex) -> Vec<Hex> {
 
 /// The largest budget of a ride. Few are large, since each smaller one is asked too.
 fn budget(generator: &mut Generator, turn: usize) -> u32 {
-    let most = match turn % 400 {
-        0 => return BUDGET,
-        1..=9 => 60,
-        10..=99 => 16,
+    let most = match turn % STEEP {
+        2 => return BUDGET,
+        3..=11 => 60,
+        12..=99 => 16,
         _ => 6,
     };
     generator.between(0, most) as u32
