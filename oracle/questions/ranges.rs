@@ -1,145 +1,52 @@
-//! Questions about the riding range and the totals check. The crate answers a set of tiles for
-//! a budget and no totals, so a tile's total is the smallest budget whose set has it.
+//! Questions about the riding range and the totals check, on rides over grounds of many kinds.
 
 use crate::generator::Generator;
+use crate::rides::{BARRED, NO_WAY, Ride, Totals};
 use crate::samples::{Centres, LIMIT};
 use crate::sheet::{ACCEPTED, NOT_RIGHT, RIDING_RANGE, Sheet, TOTALS_CHECK};
 use crate::stop;
 use hexx::algorithms::field_of_movement;
-use hexx::storage::{HexModMap, HexStore};
 use hexx::{EdgeDirection, Hex};
-
-/// The effort that bars a tile, and the total that stands for no way.
-const BARRED: u16 = u16::MAX;
-const NO_WAY: u32 = u32::MAX;
 
 /// The largest budget that is asked: the crate's own work grows with it on every map.
 pub const BUDGET: u32 = 180;
 
-/// A map with its efforts by index, a start and a budget.
-struct Ride {
-    centre: Hex,
-    radius: u32,
-    start: Hex,
-    budget: u32,
-    efforts: Vec<u16>,
+/// The words of a question about a ride, to the last effort.
+fn words(ride: &Ride, kind: i64) -> Vec<i64> {
+    let [x, y] = ride.centre.to_array().map(i64::from);
+    let [at, beside] = ride.start.to_array().map(i64::from);
+    let area = ride.efforts.len() as i64;
+    let mut words = vec![
+        kind,
+        x,
+        y,
+        ride.radius.into(),
+        at,
+        beside,
+        ride.budget.into(),
+    ];
+    words.extend([area, area]);
+    words.extend(ride.efforts.iter().map(|&effort| i64::from(effort)));
+    words
 }
 
-/// A table by index.
-type Totals = Vec<u32>;
+/// Writes the riding range with the totals that follow from the crate's answers.
+fn range(ride: &Ride, sheet: &mut Sheet, totals: &[u32]) {
+    let mut words = words(ride, RIDING_RANGE);
+    words.push(ACCEPTED);
+    words.extend(totals.iter().map(|&total| i64::from(total)));
+    sheet.line(&words);
+}
 
-impl Ride {
-    /// The crate's map of the efforts, which it keeps in the order of its indices.
-    fn by_tile<T: Copy>(&self, table: &[T]) -> HexModMap<T> {
-        let mut entries = table.iter().copied();
-        HexModMap::new(self.centre, self.radius, |_| entries.next().unwrap())
-    }
-
-    /// The tiles of the map in the order of their indices.
-    fn tiles(&self) -> Vec<Hex> {
-        let indices: Vec<u32> = (0..Hex::range_count(self.radius)).collect();
-        self.by_tile(&indices)
-            .iter()
-            .map(|(tile, _)| tile)
-            .collect()
-    }
-
-    /// The totals that follow from the crate's answers for every budget from 0 on. Once every
-    /// tile that may be reached has its total, only the budget itself is still asked.
-    fn totals(&self) -> Totals {
-        let tiles = self.tiles();
-        let efforts = self.by_tile(&self.efforts);
-        let cost = |tile: Hex| {
-            efforts
-                .get(tile)
-                .filter(|&&effort| effort != BARRED)
-                .copied()
-        };
-        let may_be_reached = |tile: Hex| tile == self.start || cost(tile).is_some();
-        let mut totals = vec![NO_WAY; tiles.len()];
-        for budget in 0..=self.budget {
-            let mut entries = tiles.iter().zip(&totals);
-            let done = entries.all(|(&tile, &total)| total != NO_WAY || !may_be_reached(tile));
-            if done && budget < self.budget {
-                continue;
-            }
-            let set = field_of_movement(self.start, budget, |tile| cost(tile).map(u32::from));
-            if !set.iter().all(|&tile| may_be_reached(tile)) {
-                stop("the crate's range has a barred tile, or one that is not of the map");
-            }
-            for (tile, total) in tiles.iter().zip(&mut totals) {
-                match set.contains(tile) {
-                    true => *total = budget.min(*total),
-                    false if *total == NO_WAY => (),
-                    false => stop("the crate's range of a larger budget lacks a tile"),
-                }
-            }
-        }
-        totals
-    }
-
-    /// The lowest index at which a table breaks the neighbour rule, read from the paper: nothing
-    /// of the crate's range and nothing of the library is used.
-    fn broken(&self, totals: &[u32]) -> Option<usize> {
-        let by_tile = self.by_tile(totals);
-        self.tiles()
-            .into_iter()
-            .zip(totals)
-            .enumerate()
-            .find_map(|(index, (tile, &total))| {
-                let smallest = EdgeDirection::ALL_DIRECTIONS
-                    .iter()
-                    .filter_map(|&direction| by_tile.get(tile + direction.into_hex()).copied())
-                    .filter(|&entry| entry != NO_WAY)
-                    .min();
-                let sum =
-                    smallest.map(|entry| u64::from(entry) + u64::from(self.efforts[index]) + 1);
-                let rule = match sum {
-                    _ if tile == self.start => 0,
-                    _ if self.efforts[index] == BARRED => u64::from(NO_WAY),
-                    Some(sum) if sum <= u64::from(self.budget) => sum,
-                    _ => u64::from(NO_WAY),
-                };
-                (u64::from(total) != rule).then_some(index)
-            })
-    }
-
-    fn words(&self, kind: i64) -> Vec<i64> {
-        let [x, y] = self.centre.to_array().map(i64::from);
-        let [at, beside] = self.start.to_array().map(i64::from);
-        let area = self.efforts.len() as i64;
-        let mut words = vec![
-            kind,
-            x,
-            y,
-            self.radius.into(),
-            at,
-            beside,
-            self.budget.into(),
-        ];
-        words.extend([area, area]);
-        words.extend(self.efforts.iter().map(|&effort| i64::from(effort)));
-        words
-    }
-
-    /// Writes the riding range with the totals that follow from the crate's answers.
-    fn range(&self, sheet: &mut Sheet, totals: &[u32]) {
-        let mut words = self.words(RIDING_RANGE);
-        words.push(ACCEPTED);
-        words.extend(totals.iter().map(|&total| i64::from(total)));
-        sheet.line(&words);
-    }
-
-    /// Writes the check of a table with the verdict of the rule.
-    fn check(&self, sheet: &mut Sheet, totals: &[u32]) {
-        let mut words = self.words(TOTALS_CHECK);
-        words.extend(totals.iter().map(|&total| i64::from(total)));
-        words.extend(match self.broken(totals) {
-            None => [ACCEPTED, 0],
-            Some(index) => [NOT_RIGHT, index as i64],
-        });
-        sheet.line(&words);
-    }
+/// Writes the check of a table with the verdict of the rule.
+fn check(ride: &Ride, sheet: &mut Sheet, totals: &[u32]) {
+    let mut words = words(ride, TOTALS_CHECK);
+    words.extend(totals.iter().map(|&total| i64::from(total)));
+    words.extend(match ride.broken(totals) {
+        None => [ACCEPTED, 0],
+        Some(index) => [NOT_RIGHT, index as i64],
+    });
+    sheet.line(&words);
 }
 
 /// How many rides are asked.
@@ -150,8 +57,8 @@ const RIDES: usize = 2400;
 const STEEP: usize = 396;
 
 /// The ground of a ride over the given tiles. What it is like goes by turns: flat, gentle,
-/// rough or steep, gentle with barred tiles, mostly barred, a wall across the map with a gap or without,
-/// a corridor from the start, and gentle with tiles too dear for every budget.
+/// rough or steep, with some tiles barred, with half of them barred, with a wall across the map,
+/// with a wall that has a gap, a corridor from the start, and with tiles too dear for every budget.
 fn ground(generator: &mut Generator, turn: usize, tiles: &[Hex], start: Hex) -> Vec<u16> {
     let wall = tiles[generator.between(0, tiles.len() as i32 - 1) as usize].y;
     let gap = tiles[generator.between(0, tiles.len() as i32 - 1) as usize];
@@ -191,7 +98,7 @@ fn corridor(generator: &mut Generator, tiles: &[Hex], start: Hex) -> Vec<Hex> {
     met
 }
 
-/// The largest budget of a ride. Few are large, since each smaller one is asked too.
+/// The budget of a ride. Few are large, since each smaller one is asked too.
 fn budget(generator: &mut Generator, turn: usize) -> u32 {
     let most = match turn % STEEP {
         2 => return BUDGET,
@@ -265,7 +172,7 @@ pub fn ask(sheet: &mut Sheet) {
         .collect();
     sheet.comment("30 riding range: 30 map x y budget efforts totals effort.. number total..");
     for (ride, totals) in &asked {
-        ride.range(sheet, totals);
+        range(ride, sheet, totals);
     }
     sheet.comment(
         "31 totals check: 31 map x y budget efforts totals effort.. total.. number index\n\
@@ -275,7 +182,7 @@ pub fn ask(sheet: &mut Sheet) {
         if ride.broken(totals).is_some() {
             stop("a table of the crate's totals breaks the neighbour rule");
         }
-        ride.check(sheet, totals);
+        check(ride, sheet, totals);
     }
     sheet.comment(
         "The same tables with damage, and the lowest index that breaks the neighbour rule.",
@@ -285,7 +192,7 @@ pub fn ask(sheet: &mut Sheet) {
         if ride.broken(&table).is_none() {
             stop("a damaged table keeps the neighbour rule");
         }
-        ride.check(sheet, &table);
+        check(ride, sheet, &table);
     }
 }
 
@@ -298,7 +205,7 @@ fn refused(sheet: &mut Sheet, centre: Hex, radius: u32, start: Hex) {
         budget: 2,
         efforts: vec![0; Hex::range_count(radius) as usize],
     };
-    ride.range(sheet, &ride.totals());
+    range(&ride, sheet, &ride.totals());
 }
 
 /// Checks that the crate enters a tile whose cost is the largest number as if it cost nothing.
