@@ -1,5 +1,6 @@
 //! A part of a sheet that is small enough to be kept beside the code.
 
+use crate::ranges::BUDGET;
 use crate::rings::SHOWN;
 use crate::sheet::{RING_COUNT, Sheet};
 
@@ -22,6 +23,11 @@ fn map_named(words: &[i64]) -> bool {
     words[3] <= 3 || words[3] == 60
 }
 
+/// Says whether a rule names the line of a range: it has the largest budget.
+fn range_named(words: &[i64]) -> bool {
+    words[6] == i64::from(BUDGET)
+}
+
 /// The lines of the sheet of lists and counts that are kept, with all its comments.
 pub fn of_lists(lists: &Sheet) -> Sheet {
     let heading = "A part of the answers on lists, chosen by fixed rules.";
@@ -34,10 +40,10 @@ pub fn of_maps(maps: &Sheet) -> Sheet {
     kept(maps, heading, map_named)
 }
 
-/// The lines of the sheet of ranges that are kept, with all its comments. No rule names one.
+/// The lines of the sheet of ranges that are kept, with all its comments.
 pub fn of_ranges(ranges: &Sheet) -> Sheet {
     let heading = "A part of the answers on ranges, chosen by fixed rules.";
-    kept(ranges, heading, |_| false)
+    kept(ranges, heading, range_named)
 }
 
 /// The lines of a sheet that a rule names, and of the others each one after a fixed number.

@@ -14,6 +14,7 @@ mod maps;
 mod offset;
 mod places;
 mod ranges;
+mod rides;
 mod rings;
 mod samples;
 mod sheet;

@@ -1,138 +1,64 @@
-//! Questions about the riding range and the totals check. The crate answers a set of tiles for
-//! a budget and no totals, so a tile's total is the smallest budget whose set has it.
+//! Questions about the riding range and the totals check, on rides over grounds of many kinds.
 
 use crate::generator::Generator;
+use crate::rides::{BARRED, NO_WAY, Ride, Totals};
 use crate::samples::{Centres, LIMIT};
 use crate::sheet::{ACCEPTED, NOT_RIGHT, RIDING_RANGE, Sheet, TOTALS_CHECK};
 use crate::stop;
 use hexx::algorithms::field_of_movement;
-use hexx::storage::{HexModMap, HexStore};
 use hexx::{EdgeDirection, Hex};
 
-/// The effort that bars a tile, and the total that stands for no way.
-const BARRED: u16 = u16::MAX;
-const NO_WAY: u32 = u32::MAX;
-
-/// What the entries of a lent table hold before the riding range is asked for.
-const UNTOUCHED: i64 = 7777;
-
 /// The largest budget that is asked: the crate's own work grows with it on every map.
-const BUDGET: u32 = 180;
+pub const BUDGET: u32 = 180;
 
-/// A map with its efforts by index, a start and a budget.
-struct Ride {
-    centre: Hex,
-    radius: u32,
-    start: Hex,
-    budget: u32,
-    efforts: Vec<u16>,
+/// The words of a question about a ride, to the last effort.
+fn words(ride: &Ride, kind: i64) -> Vec<i64> {
+    let [x, y] = ride.centre.to_array().map(i64::from);
+    let [at, beside] = ride.start.to_array().map(i64::from);
+    let area = ride.efforts.len() as i64;
+    let mut words = vec![
+        kind,
+        x,
+        y,
+        ride.radius.into(),
+        at,
+        beside,
+        ride.budget.into(),
+    ];
+    words.extend([area, area]);
+    words.extend(ride.efforts.iter().map(|&effort| i64::from(effort)));
+    words
 }
 
-/// A table by index.
-type Totals = Vec<u32>;
+/// Writes the riding range with the totals that follow from the crate's answers.
+fn range(ride: &Ride, sheet: &mut Sheet, totals: &[u32]) {
+    let mut words = words(ride, RIDING_RANGE);
+    words.push(ACCEPTED);
+    words.extend(totals.iter().map(|&total| i64::from(total)));
+    sheet.line(&words);
+}
 
-impl Ride {
-    /// The crate's map of the efforts, which it keeps in the order of its indices.
-    fn by_tile<T: Copy>(&self, table: &[T]) -> HexModMap<T> {
-        let mut entries = table.iter().copied();
-        HexModMap::new(self.centre, self.radius, |_| entries.next().unwrap())
-    }
-
-    /// The tiles of the map in the order of their indices.
-    fn tiles(&self) -> Vec<Hex> {
-        let indices: Vec<u32> = (0..Hex::range_count(self.radius)).collect();
-        self.by_tile(&indices).iter().map(|(tile, _)| tile).collect()
-    }
-
-    /// The totals that follow from the crate's answers for every budget from 0 on. Once every
-    /// open tile has its total, only the budget itself is still asked.
-    fn totals(&self) -> Totals {
-        let indices: Vec<u32> = (0..Hex::range_count(self.radius)).collect();
-        let indices = self.by_tile(&indices);
-        let efforts = self.by_tile(&self.efforts);
-        let open = |tile| efforts.get(tile).copied().filter(|&effort| effort != BARRED);
-        let all = self.tiles().into_iter().filter(|&t| t == self.start || open(t).is_some());
-        let all = all.count();
-        let mut totals = vec![NO_WAY; self.efforts.len()];
-        let mut found = 0;
-        for budget in 0..=self.budget {
-            if found == all && budget < self.budget {
-                continue;
-            }
-            let set = field_of_movement(self.start, budget, |tile| open(tile).map(u32::from));
-            for &tile in &set {
-                let Some(&index) = indices.get(tile) else {
-                    stop("the crate's range has a tile that is not of the map");
-                };
-                if totals[index as usize] == NO_WAY {
-                    totals[index as usize] = budget;
-                    found += 1;
-                }
-            }
-            if set.len() != found {
-                stop("the crate's range of a larger budget lacks a tile");
-            }
-        }
-        totals
-    }
-
-    /// The lowest index at which a table breaks the neighbour rule, read from the paper: nothing
-    /// of the crate's range and nothing of the library is used.
-    fn broken(&self, totals: &[u32]) -> Option<usize> {
-        let by_tile = self.by_tile(totals);
-        self.tiles().into_iter().zip(totals).enumerate().find_map(|(index, (tile, &total))| {
-            let smallest = EdgeDirection::ALL_DIRECTIONS
-                .iter()
-                .filter_map(|&direction| by_tile.get(tile + direction.into_hex()).copied())
-                .filter(|&entry| entry != NO_WAY)
-                .min();
-            let sum = smallest.map(|entry| u64::from(entry) + u64::from(self.efforts[index]) + 1);
-            let rule = match sum {
-                _ if tile == self.start => 0,
-                _ if self.efforts[index] == BARRED => u64::from(NO_WAY),
-                Some(sum) if sum <= u64::from(self.budget) => sum,
-                _ => u64::from(NO_WAY),
-            };
-            (u64::from(total) != rule).then_some(index)
-        })
-    }
-
-    fn words(&self, kind: i64) -> Vec<i64> {
-        let [x, y] = self.centre.to_array().map(i64::from);
-        let [at, beside] = self.start.to_array().map(i64::from);
-        let area = self.efforts.len() as i64;
-        let mut words = vec![kind, x, y, self.radius.into(), at, beside, self.budget.into()];
-        words.extend([area, area]);
-        words.extend(self.efforts.iter().map(|&effort| i64::from(effort)));
-        words
-    }
-
-    /// Writes the riding range with the totals that follow from the crate's answers.
-    fn range(&self, sheet: &mut Sheet, totals: &[u32]) {
-        let mut words = self.words(RIDING_RANGE);
-        words.push(ACCEPTED);
-        words.extend(totals.iter().map(|&total| i64::from(total)));
-        sheet.line(&words);
-    }
-
-    /// Writes the check of a table with the verdict of the rule.
-    fn check(&self, sheet: &mut Sheet, totals: &[u32]) {
-        let mut words = self.words(TOTALS_CHECK);
-        words.extend(totals.iter().map(|&total| i64::from(total)));
-        words.extend(match self.broken(totals) {
-            None => [ACCEPTED, 0],
-            Some(index) => [NOT_RIGHT, index as i64],
-        });
-        sheet.line(&words);
-    }
+/// Writes the check of a table with the verdict of the rule.
+fn check(ride: &Ride, sheet: &mut Sheet, totals: &[u32]) {
+    let mut words = words(ride, TOTALS_CHECK);
+    words.extend(totals.iter().map(|&total| i64::from(total)));
+    words.extend(match ride.broken(totals) {
+        None => [ACCEPTED, 0],
+        Some(index) => [NOT_RIGHT, index as i64],
+    });
+    sheet.line(&words);
 }
 
 /// How many rides are asked.
 const RIDES: usize = 2400;
 
+/// One ride of this many has the largest budget and steep ground, so that its totals are large.
+/// It is a multiple of the nine kinds of ground.
+const STEEP: usize = 396;
+
 /// The ground of a ride over the given tiles. What it is like goes by turns: flat, gentle,
-/// rough, gentle with barred tiles, mostly barred, a wall across the map with a gap or without,
-/// a corridor from the start, and gentle with tiles too dear for every budget.
+/// rough or steep, with some tiles barred, with half of them barred, with a wall across the map,
+/// with a wall that has a gap, a corridor from the start, and with tiles too dear for every budget.
 fn ground(generator: &mut Generator, turn: usize, tiles: &[Hex], start: Hex) -> Vec<u16> {
     let wall = tiles[generator.between(0, tiles.len() as i32 - 1) as usize].y;
     let gap = tiles[generator.between(0, tiles.len() as i32 - 1) as usize];
@@ -143,6 +69,7 @@ fn ground(generator: &mut Generator, turn: usize, tiles: &[Hex], start: Hex) -> 
         match turn % 9 {
             0 => 0,
             1 => gentle,
+            2 if turn % STEEP == 2 => generator.between(0, 60) as u16,
             2 => generator.between(0, 12) as u16,
             3 if chance < 3 => BARRED,
             4 if chance < 5 => BARRED,
@@ -171,12 +98,12 @@ fn corridor(generator: &mut Generator, tiles: &[Hex], start: Hex) -> Vec<Hex> {
     met
 }
 
-/// The largest budget of a ride. Few are large, since each smaller one is asked too.
+/// The budget of a ride. Few are large, since each smaller one is asked too.
 fn budget(generator: &mut Generator, turn: usize) -> u32 {
-    let most = match turn % 400 {
-        0 => return BUDGET,
-        1..=9 => 60,
-        10..=99 => 16,
+    let most = match turn % STEEP {
+        2 => return BUDGET,
+        3..=11 => 60,
+        12..=99 => 16,
         _ => 6,
     };
     generator.between(0, most) as u32
@@ -207,7 +134,11 @@ fn ride(generator: &mut Generator, centre: Hex, turn: usize) -> Ride {
 /// low, no way where there is one, a number where there is no way, the start not 0, and zeros
 /// throughout. Where a turn would leave the table as it is, its start is made 1.
 fn damaged(generator: &mut Generator, turn: usize, ride: &Ride, totals: &[u32]) -> Totals {
-    let start = ride.tiles().iter().position(|&tile| tile == ride.start).unwrap();
+    let start = ride
+        .tiles()
+        .iter()
+        .position(|&tile| tile == ride.start)
+        .unwrap();
     let mut table = totals.to_vec();
     let some: Vec<usize> = (0..table.len())
         .filter(|&at| (table[at] == NO_WAY) == (turn % 6 == 3))
@@ -241,7 +172,7 @@ pub fn ask(sheet: &mut Sheet) {
         .collect();
     sheet.comment("30 riding range: 30 map x y budget efforts totals effort.. number total..");
     for (ride, totals) in &asked {
-        ride.range(sheet, totals);
+        range(ride, sheet, totals);
     }
     sheet.comment(
         "31 totals check: 31 map x y budget efforts totals effort.. total.. number index\n\
@@ -251,19 +182,21 @@ pub fn ask(sheet: &mut Sheet) {
         if ride.broken(totals).is_some() {
             stop("a table of the crate's totals breaks the neighbour rule");
         }
-        ride.check(sheet, totals);
+        check(ride, sheet, totals);
     }
-    sheet.comment("The same tables with damage, and the lowest index that breaks the neighbour rule.");
+    sheet.comment(
+        "The same tables with damage, and the lowest index that breaks the neighbour rule.",
+    );
     for (turn, (ride, totals)) in asked.iter().enumerate() {
         let table = damaged(generator, turn, ride, totals);
         if ride.broken(&table).is_none() {
             stop("a damaged table keeps the neighbour rule");
         }
-        ride.check(sheet, &table);
+        check(ride, sheet, &table);
     }
 }
 
-/// Writes the crate's answer on a ride that the paper refuses.
+/// Writes the crate's answer on a flat ride that the paper refuses.
 fn refused(sheet: &mut Sheet, centre: Hex, radius: u32, start: Hex) {
     let ride = Ride {
         centre,
@@ -272,20 +205,17 @@ fn refused(sheet: &mut Sheet, centre: Hex, radius: u32, start: Hex) {
         budget: 2,
         efforts: vec![0; Hex::range_count(radius) as usize],
     };
-    let efforts = ride.by_tile(&ride.efforts);
-    let totals: Totals = ride
-        .tiles()
-        .into_iter()
-        .map(|tile| {
-            (0..=ride.budget)
-                .find(|&budget| {
-                    field_of_movement(start, budget, |t| efforts.get(t).map(|&e| e.into()))
-                        .contains(&tile)
-                })
-                .unwrap_or(NO_WAY)
-        })
-        .collect();
-    ride.range(sheet, &totals);
+    range(&ride, sheet, &ride.totals());
+}
+
+/// Checks that the crate enters a tile whose cost is the largest number as if it cost nothing.
+/// No line can ask this, since an effort has 16 bits.
+fn check_wrapped_cost() {
+    let beside = Hex::new(1, 0);
+    let set = field_of_movement(Hex::ZERO, 1, |tile| (tile == beside).then_some(u32::MAX));
+    if !set.contains(&beside) {
+        stop("a cost listed as a difference does not wrap round");
+    }
 }
 
 pub fn differences(sheet: &mut Sheet) {
@@ -300,4 +230,9 @@ pub fn differences(sheet: &mut Sheet) {
          The paper refuses it with number 1 and leaves the table as it was.",
     );
     refused(sheet, Hex::new(LIMIT + 1, 0), 1, Hex::new(LIMIT + 1, 0));
+    check_wrapped_cost();
+    sheet.comment(
+        "A cost of 4294967295, which no effort is and no line can hold: the crate adds 1 in 32 bits,\n\
+         so that the step is free, and enters the tile with budget 1.",
+    );
 }
