@@ -58,15 +58,15 @@ module _ (a u base : ℕ) (H H₁ H₂ : List ℕ) (o : Open a H u base) (k : Ke
       left : (x d : ℕ) → d < 6 → pend a H₁ u 6 x d → live a H₂ x d
       left x d h q = (q .0 .0, omega (arith, q .0 .1, p .others x (λ e. omega (arith, q .1 e, h))))
 
-  pub turned : (to cost : ℕ → ℕ → ℕ) (b : ℕ) (beside costs : List ℕ)
-      → ((d : ℕ) → d < 6 → getD beside d 0 ≡ to u d) → ((d : ℕ) → d < 6 → getD costs d 0 ≡ cost u d)
-      → LookedAround a base b beside costs 6 H H₁ → Turned to cost a b H H₂
-  turned to cost b beside costs beside-is costs-is around =
+  pub turned : (to cost : ℕ → ℕ → ℕ) (b : ℕ) (tiles costs : List ℕ)
+      → ((d : ℕ) → d < 6 → getD tiles d 0 ≡ to u d) → ((d : ℕ) → d < 6 → getD costs d 0 ≡ cost u d)
+      → LookedAround a base b tiles costs 6 H H₁ → Turned to cost a b H H₂
+  turned to cost b tiles costs tiles-are costs-are around =
       record {
         heap = heap-closed;
         size = p .size ∙ k .size;
         falls = work-closed;
-        goes = λ G paved. goes-closed G b (around G u (paved .tiles) (λ d h. rw (beside-is d h, costs-is d h) (paved .leads u d (o .on) h)) (o .is));
+        goes = λ G paved. goes-closed G b (around G u (paved .tiles) (λ d h. rw (tiles-are d h, costs-are d h) (paved .leads u d (o .on) h)) (o .is));
       }
 
 -- The start: no tile is reached but s, which is open.

@@ -1,6 +1,6 @@
--- Laws of filling a table: when it is filled, what has been written, and that what is written is right.
+-- Laws of filling a table: when it is filled, what has been written, and that the totals that are written are right.
 use mathlib.Core.Path.{_≡_, refl, sym, ap, _∙_}
-use mathlib.Core.Bool.{Bool, true, false, _&&_, cond}
+use mathlib.Core.Bool.{true, false, cond}
 use mathlib.Core.List.{List}
 use Prim.Native.Nat.{ℕ, _+_, _-_, _*_, _<_, _≤_, min}
 use native.Mathlib.Decide.{ℕ-discrete, decLt}
@@ -22,7 +22,7 @@ use Rattle.terrain.specs.LandOfMap.{landOf}
 use Rattle.terrain.proofs.Judging.{lengths, fit-by-table}
 use Rattle.terrain.proofs.Totals.{Efforts, capped, sums-below}
 use Rattle.engine.specs.Filling.{fits, FillsTotals}
-use Rattle.engine.specs.Leaves.{noTotal}
+use Rattle.engine.specs.Leaves.{noTotal, largestArea}
 use Rattle.engine.specs.Settling.{totals}
 use Rattle.engine.specs.Steps.{toOf, costOf}
 use Rattle.engine.specs.Turns.{OfMap, Settles}
@@ -80,7 +80,7 @@ module _ (map : Map) (E : List ℕ) (s b : ℕ) (H : List ℕ) (of : OfMap map E
   abbrev T : ℕ → ℕ
   T = totals (length E) H
 
-  below : (mark : ℕ) → 719574300 < mark → (areaOf (map .radius) - 1) * barred < mark
+  below : (mark : ℕ) → (largestArea - 1) * barred < mark → (areaOf (map .radius) - 1) * barred < mark
   below mark = sums-below map (fine map (of .fine) .small) E short mark
 
   right : Right (landOf map E noTotal) T s b
@@ -99,10 +99,11 @@ module _ (map : Map) (E : List ℕ) (s b : ℕ) (H : List ℕ) (of : OfMap map E
       (λ t h. each t (omega (arith, of .size)) ∙ entry t h (decLt (T t) noTotal))
       right
 
--- The two ways in which a table is filled or not.
+-- A test has one outcome.
 pub clash : true ≡ false → ⊥
 clash z = let k : _≡_ {A = ℕ} 0 1 = cc in omega arith
 
+-- The two ways in which a table of totals is filled or not.
 module _ (map : Map) (E : List ℕ) (s b : ℕ) (before : List ℕ) where
   pub leaves-it : fits map s (length E) (length before) ≡ false → FillsTotals map E s b before before
   leaves-it e = record { filled = λ f. absurd (clash (sym f ∙ e)); left = λ f. refl }

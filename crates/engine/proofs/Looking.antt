@@ -26,9 +26,9 @@ kept-trans k j =
     }
 
 -- One direction more, in a loop over the six.
-pub around-next : (a base b d : ℕ) (beside costs H H₁ H₂ : List ℕ) → d < 6 → Kept a base H H₁ → LookedAround a base b beside costs d H H₁
-    → Looked a base b (getD beside d 0) (getD costs d 0) H₁ H₂ → LookedAround a base b beside costs (d + 1) H H₂
-around-next a base b d beside costs H H₁ H₂ h k around looked G u tiles leads is s g =
+pub around-next : (a base b d : ℕ) (to costs H H₁ H₂ : List ℕ) → d < 6 → Kept a base H H₁ → LookedAround a base b to costs d H H₁
+    → Looked a base b (getD to d 0) (getD costs d 0) H₁ H₂ → LookedAround a base b to costs (d + 1) H H₂
+around-next a base b d to costs H H₁ H₂ h k around looked G u tiles leads is s g =
     looked G u d tiles (leads d h) (ap totalOf (k .stays u is) ∙ is) s (around G u tiles leads is s g)
 
 -- The step out of u by d has been looked at.

@@ -20,13 +20,17 @@ use Rattle.terrain.specs.LandOfMap.{priceOf, against, landOf}
 use Rattle.terrain.proofs.Walks.{against-twice}
 use Rattle.engine.specs.Leaves.{noTotal}
 use Rattle.engine.specs.Settling.{Leads}
-use Rattle.engine.specs.Steps.{priceAt, weightOut, weightInto, toOf, costOf}
+use Rattle.engine.specs.Steps.{effortAt, weightOut, weightInto, toOf, costOf}
 use Rattle.engine.specs.Turns.{OfMap, Paved}
 use Rattle.engine.specs.declared.steps.Table.{Table}
-use Rattle.engine.proofs.StepCosts.{price-within, weight-within}
+use Rattle.engine.proofs.StepCosts.{effort-within}
+
+-- The land for ranks: the ground turned round, with the engine's mark for no way.
+abbrev pub rankLand : Map → List ℕ → Land
+rankLand map E = remarked (turned (groundOf map E) multiplier) noTotal
 
 module _ (map : Map) (E : List ℕ) (of : OfMap map E) where
-  -- Where a step leads back, it leads there and back the other way as well.
+  -- A step by the opposite direction, and one by the direction itself, lead back.
   there-back : (t d : ℕ) → t < areaOf (map .radius) → d < 6 → nearIn map t (against d) < areaOf (map .radius) → nearIn map (nearIn map t (against d)) d ≡ t
   there-back t d h l below =
       ap (nearIn map (nearIn map t (against d))) (sym (against-twice d l)) ∙ near-back map (fine map (of .fine) .small) t (against d) h below
@@ -35,7 +39,7 @@ module _ (map : Map) (E : List ℕ) (of : OfMap map E) where
   totals-leads : (u d : ℕ) → u < length E → d < 6 → Leads (landOf map E noTotal) u d (toOf Table.Totals map u d) (costOf Table.Totals map E u d)
   totals-leads u d h l =
       record {
-        only = λ y v st. let e = sym (near y v st) in (e, sym (st .price) ∙ price y (st .into) ∙ ap (priceAt E) e);
+        only = λ y v st. let e = sym (near y v st) in (e, sym (st .price) ∙ price y (st .into) ∙ ap (λ (t : ℕ). priceOf (effortAt E t)) e);
         opens =
             λ below paid.
             record { into = below; dir = l; from = near-back map (fine map (of .fine) .small) u d on below; on = on; price = price (nearIn map u d) below; paid = paid };
@@ -44,8 +48,8 @@ module _ (map : Map) (E : List ℕ) (of : OfMap map E) where
       on : u < areaOf (map .radius)
       on = omega (arith, of .size)
 
-      price : (t : ℕ) → t < areaOf (map .radius) → priceOf (getD E t 0) ≡ priceAt E t
-      price t below = price-within E t (omega (arith, of .size))
+      price : (t : ℕ) → t < areaOf (map .radius) → priceOf (getD E t 0) ≡ priceOf (effortAt E t)
+      price t below = ap priceOf (effort-within E t 0 (omega (arith, of .size)))
 
       near : (y v : ℕ) → Step (landOf map E noTotal) u d y v → nearIn map u d ≡ y
       near y v st = ap (λ (t : ℕ). nearIn map t d) (sym (st .from)) ∙ there-back y d (st .into) l (omega (arith, st .from, on))
@@ -53,19 +57,15 @@ module _ (map : Map) (E : List ℕ) (of : OfMap map E) where
   pub totals-paved : Paved (landOf map E noTotal) (length E) (toOf Table.Totals map) (costOf Table.Totals map E)
   totals-paved = record { tiles = sym (of .size); mark = refl; leads = totals-leads }
 
-  -- Ranks: a step of direction d into t comes from what is near by that direction, for it is walked the other way.
-  abbrev pub rankLand : Land
-  rankLand = remarked (turned (groundOf map E) multiplier) noTotal
+  -- Ranks: a step of direction d into t comes from what is near by that direction, for it is walked the other way. It weighs the effort of the tile that it leaves.
+  weight-is : (u t d : ℕ) → nearIn map t d ≡ u → weight (groundOf map E) multiplier t d ≡ weightInto (weightOut (getD E u 0)) (getD E t 0)
+  unfolding weightOut weightInto
+  weight-is u t d e = ap (λ (x : ℕ). cond (ltb (getD E t 0) barred) (cond (ltb (getD E x 0) barred) (getD E x 0 * multiplier + 1) 0) 0) e
 
-  -- What the step weighs, by the effort of the tile that it leaves.
-  leaves : (u t d : ℕ) → nearIn map t d ≡ u → weight (groundOf map E) multiplier t d ≡ cond (ltb (getD E t 0) barred) (weightOut (getD E u 0)) 0
-  unfolding weightOut
-  leaves u t d e = ap (λ (x : ℕ). cond (ltb (getD E t 0) barred) (cond (ltb (getD E x 0) barred) (getD E x 0 * multiplier + 1) 0) 0) e
-
-  ranks-leads : (u d : ℕ) → u < length E → d < 6 → Leads rankLand u d (toOf Table.Ranks map u d) (costOf Table.Ranks map E u d)
+  ranks-leads : (u d : ℕ) → u < length E → d < 6 → Leads (rankLand map E) u d (toOf Table.Ranks map u d) (costOf Table.Ranks map E u d)
   ranks-leads u d h l =
       record {
-        only = λ y v st. let e = near y v st in (sym e, sym (st .price) ∙ weighs y (st .into) (st .from) ∙ ap (weightInto E (weightOut (getD E u 0))) (sym e));
+        only = λ y v st. let e = near y v st in (sym e, sym (st .price) ∙ weighs y (st .into) (st .from) ∙ ap (λ (t : ℕ). weightInto (weightOut (getD E u 0)) (effortAt E t)) (sym e));
         opens =
             λ below paid.
             let back = there-back u d on l below in
@@ -75,12 +75,12 @@ module _ (map : Map) (E : List ℕ) (of : OfMap map E) where
       on : u < areaOf (map .radius)
       on = omega (arith, of .size)
 
-      weighs : (t : ℕ) → t < areaOf (map .radius) → nearIn map t d ≡ u → weight (groundOf map E) multiplier t d ≡ weightInto E (weightOut (getD E u 0)) t
-      weighs t below e = leaves u t d e ∙ weight-within E (weightOut (getD E u 0)) t (omega (arith, of .size))
+      weighs : (t : ℕ) → t < areaOf (map .radius) → nearIn map t d ≡ u → weight (groundOf map E) multiplier t d ≡ weightInto (weightOut (getD E u 0)) (effortAt E t)
+      weighs t below e = weight-is u t d e ∙ ap (weightInto (weightOut (getD E u 0))) (effort-within E t 0 (omega (arith, of .size)))
 
-      near : (y v : ℕ) → Step rankLand u d y v → nearIn map u (against d) ≡ y
+      near : (y v : ℕ) → Step (rankLand map E) u d y v → nearIn map u (against d) ≡ y
       near y v st =
           ap (λ (t : ℕ). nearIn map t (against d)) (sym (st .from)) ∙ near-back map (fine map (of .fine) .small) y d (st .into) (omega (arith, st .from, on))
 
-  pub ranks-paved : Paved rankLand (length E) (toOf Table.Ranks map) (costOf Table.Ranks map E)
+  pub ranks-paved : Paved (rankLand map E) (length E) (toOf Table.Ranks map) (costOf Table.Ranks map E)
   ranks-paved = record { tiles = sym (of .size); mark = refl; leads = ranks-leads }

@@ -1,5 +1,5 @@
 -- Laws of filling a table of ranks: what the leaves tell, over the ground turned round, are the ranks.
-use mathlib.Core.Path.{_≡_, refl, sym, ap, _∙_}
+use mathlib.Core.Path.{_≡_, refl, sym, _∙_}
 use mathlib.Core.Bool.{true, false}
 use mathlib.Core.List.{List}
 use Prim.Native.Nat.{ℕ, _*_, _-_, _≤_, _<_}
@@ -7,7 +7,7 @@ use native.Mathlib.Nat.{mul-le-mul-right}
 use native.Mathlib.Omega.{arith}
 use lib.ListN.{length, getD}
 use borrow.Author.Tests.{lt-ltb, le-ltb}
-use Rattle.paths.specs.Tables.{at, Right, Capped}
+use Rattle.paths.specs.Tables.{at, Capped}
 use Rattle.paths.proofs.PlainWords.{right-marked}
 use Rattle.routes.specs.Grounds.{Ground, OpenTile}
 use Rattle.routes.specs.Ranks.{multiplier, noRank, Ranks, Fits}
@@ -20,7 +20,7 @@ use Rattle.storage.specs.declared.Map.{Map}
 use Rattle.storage.proofs.Maps.{fine, area-small}
 use Rattle.terrain.specs.GroundOfMap.{groundOf}
 use Rattle.engine.specs.Filling.{fits, FillsRanks}
-use Rattle.engine.specs.Leaves.{largestTotal, noTotal}
+use Rattle.engine.specs.Leaves.{largestTotal, largestArea}
 use Rattle.engine.specs.Settling.{totals}
 use Rattle.engine.specs.Steps.{toOf, costOf}
 use Rattle.engine.specs.Turns.{OfMap, Settles}
@@ -30,21 +30,22 @@ use Rattle.engine.proofs.Budgets.{right-wider}
 use Rattle.engine.proofs.Fillings as fillings
 use Rattle.engine.proofs.Paving.{rankLand, ranks-paved}
 
+-- A table in which all ranks stand is one of ranks.
 module _ (map : Map) (E : List ℕ) (of : OfMap map E) where
   abbrev R : Ground
   R = groundOf map E
 
-  few : areaOf (map .radius) - 1 ≤ 10980
+  few : areaOf (map .radius) - 1 ≤ largestArea - 1
   few = omega (arith, area-small (map .radius) (fine map (of .fine) .small))
 
   small-enough : Fits R
   small-enough = record { tiles = omega (arith, few); efforts = omega arith }
 
-  -- No least sum comes near the marks or the budget.
-  below : (areaOf (map .radius) - 1) * heaviest ≤ 10980 * heaviest
-  below = mul-le-mul-right {m = areaOf (map .radius) - 1} {n = 10980} heaviest few
+  -- No least sum comes near the marks or the engine's budget, so they may be exchanged for those of ranks.
+  below : (areaOf (map .radius) - 1) * heaviest ≤ (largestArea - 1) * heaviest
+  below = mul-le-mul-right {m = areaOf (map .radius) - 1} {n = largestArea - 1} heaviest few
 
-  no-dearer : Capped (rankLand map E of) heaviest
+  no-dearer : Capped (rankLand map E) heaviest
   no-dearer =
       record { cap = λ u d t w st. turned-capped small-enough .cap u d t w (record { into = st .into; dir = st .dir; from = st .from; on = st .on; price = st .price; paid = st .paid }) }
 
@@ -54,8 +55,8 @@ module _ (map : Map) (E : List ℕ) (of : OfMap map E) where
   ranks-right e H table o settles each =
       sums-ranks small-enough o
       (right-wider (turned R multiplier) (at table) e largestTotal noRank heaviest (o .on) (turned-capped small-enough) (omega (arith, below)) (omega (arith, below)) (omega arith)
-      (right-marked (rankLand map E of) (totals (length E) H) (at table) e largestTotal heaviest noRank (o .on) no-dearer (omega (arith, below)) (omega (arith, below))
-      (λ t h. each t (omega (arith, of .size))) (settles (rankLand map E of) (ranks-paved map E of))))
+      (right-marked (rankLand map E) (totals (length E) H) (at table) e largestTotal heaviest noRank (o .on) no-dearer (omega (arith, below)) (omega (arith, below))
+      (λ t h. each t (omega (arith, of .size))) (settles (rankLand map E) (ranks-paved map E of))))
 
 -- The ways in which a table of ranks is filled or not.
 module _ (map : Map) (E : List ℕ) (e : ℕ) (before : List ℕ) where

@@ -59,8 +59,8 @@ abbrev pub Looked : ℕ → ℕ → ℕ → ℕ → ℕ → List ℕ → List �
 Looked a base b t w H H′ =
     (G : Land) (u d : ℕ) → G .tiles ≡ a → Leads G u d t w → totals a H u ≡ base → Goes G b a H H′ (pend a H u d) (pend a H′ u (d + 1))
 
--- In every land in which the six steps out of such a tile lead to the tiles `beside` at these costs, those by directions below k have been looked at.
+-- In every land in which the six steps out of such a tile lead to these tiles at these costs, those by directions below k have been looked at.
 abbrev pub LookedAround : ℕ → ℕ → ℕ → List ℕ → List ℕ → ℕ → List ℕ → List ℕ → Type 0
-LookedAround a base b beside costs k H H′ =
-    (G : Land) (u : ℕ) → G .tiles ≡ a → ((d : ℕ) → d < 6 → Leads G u d (getD beside d 0) (getD costs d 0)) → totals a H u ≡ base
+LookedAround a base b to costs k H H′ =
+    (G : Land) (u : ℕ) → G .tiles ≡ a → ((d : ℕ) → d < 6 → Leads G u d (getD to d 0) (getD costs d 0)) → totals a H u ≡ base
     → Goes G b a H H′ (pend a H u 0) (pend a H′ u k)

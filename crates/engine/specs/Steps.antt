@@ -14,17 +14,17 @@ use Rattle.engine.specs.Leaves.{largestTotal}
 use Rattle.engine.specs.declared.steps.Steps.{Steps}
 use Rattle.engine.specs.declared.steps.Table.{Table}
 
--- What it costs to enter tile t, by the efforts E. Where there is no such tile, nobody may enter.
-abbrev pub priceAt : List ℕ → ℕ → ℕ
-priceAt E t = priceOf (getD E t barred)
+-- The effort of tile t, by the efforts E. Where there is no such tile, nobody may enter.
+abbrev pub effortAt : List ℕ → ℕ → ℕ
+effortAt E t = getD E t barred
 
 -- What it weighs in a rank to leave a tile of this effort, and 0, which bars the step, if it is barred.
 unfoldable pub weightOut : ℕ → ℕ
 weightOut effort = cond (ltb effort barred) (effort * multiplier + 1) 0
 
--- The same weight for a step into tile t, and 0 if that is barred or there is no such tile.
-unfoldable pub weightInto : List ℕ → ℕ → ℕ → ℕ
-weightInto E weight t = cond (ltb (getD E t barred) barred) weight 0
+-- The same weight for a step into a tile of this effort, and 0 if that is barred.
+unfoldable pub weightInto : ℕ → ℕ → ℕ
+weightInto weight effort = cond (ltb effort barred) weight 0
 
 -- The tile that the step out of u by direction d leads to.
 abbrev pub toOf : Table → Map → ℕ → ℕ → ℕ
@@ -33,8 +33,8 @@ toOf Table.Ranks map u d = nearIn map u (against d)
 
 -- What it costs.
 abbrev pub costOf : Table → Map → List ℕ → ℕ → ℕ → ℕ
-costOf Table.Totals map E u d = priceAt E (nearIn map u d)
-costOf Table.Ranks map E u d = weightInto E (weightOut (getD E u 0)) (nearIn map u (against d))
+costOf Table.Totals map E u d = priceOf (effortAt E (nearIn map u d))
+costOf Table.Ranks map E u d = weightInto (weightOut (getD E u 0)) (effortAt E (nearIn map u (against d)))
 
 -- The first k of six costs are laid.
 pub record Laid (cost : ℕ → ℕ) (k : ℕ) (costs : List ℕ) : Type 0 where

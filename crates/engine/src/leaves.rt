@@ -5,7 +5,7 @@ ghost use Prim.Native.Nat.{_%_, _<_, _≤_};
 ghost use Rattle.engine.specs.Leaves.{indices, noTotal, largestTotal, totalOf, openLeaf, closedLeaf};
 
 // An open leaf is its total times this, and the tile's index.
-pub(crate) const INDICES: u64 = 65_536;
+const INDICES: u64 = 65_536;
 
 // A closed leaf is this and its total, so that every closed leaf is above every open one.
 pub(crate) const SHUT: u64 = 18_446_462_598_732_840_960;
@@ -14,7 +14,7 @@ pub(crate) const SHUT: u64 = 18_446_462_598_732_840_960;
 pub(crate) const NO_TOTAL: u64 = 281_474_976_710_655;
 
 // The largest total that an open leaf can tell, whatever the index, and stay below `SHUT`.
-pub(crate) const LARGEST_TOTAL: u64 = 281_470_681_743_359;
+pub(crate) const LARGEST_TOTAL: u64 = SHUT / INDICES - 1;
 
 // The leaf of a tile to which no way has been found.
 pub(crate) const UNREACHED: u64 = SHUT + NO_TOTAL;

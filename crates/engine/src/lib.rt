@@ -1,4 +1,4 @@
-// Tables of least path sums over the land of a map, by always settling the open tile with the smallest total.
+// Tables of totals and of ranks over a map with efforts. Both hold least sums, and one engine finds them: it always settles the open tile with the smallest sum.
 
 ghost use Rattle.engine.specs.Filling.{FillsTotals, FillsRanks};
 

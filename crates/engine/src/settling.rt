@@ -32,16 +32,16 @@ pub(crate) fn look_around(
     tree: &mut [u64],
     a: usize,
     base: u64,
-    beside: [u32; 6],
+    to: [u32; 6],
     costs: [u64; 6],
     budget: u64,
 )
     requires { ⌜ Fit a base budget (now tree) ⌝ }
     requires { ⌜ Small costs ⌝ }
     ensures { λ _. ⌜ Kept a base (now (tree .entry)) (now (tree .exit)) ⌝ }
-    ensures looked { λ _. ⌜ LookedAround a base budget beside costs 6 (now (tree .entry)) (now (tree .exit)) ⌝ }
+    ensures looked { λ _. ⌜ LookedAround a base budget to costs 6 (now (tree .entry)) (now (tree .exit)) ⌝ }
 {
     for d in 0..6 {
-        look(tree, a, base, beside[d], costs[d], budget);
+        look(tree, a, base, to[d], costs[d], budget);
     }
 }

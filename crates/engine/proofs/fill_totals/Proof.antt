@@ -1,15 +1,13 @@
 -- `fill_totals` meets its contract: the table is left as it is, or what the leaves tell in the end is written to it.
 use mathlib.Core.Path.{_≡_, sym, _∙_}
-use mathlib.Core.Bool.{true, false}
-use Prim.Native.Nat.{ℕ, _≤_, _<_}
+use mathlib.Core.Bool.{true}
 use denote.Ref.{now}
 use native.Mathlib.Omega.{arith}
-use lib.ListN.{length, getD, length-replicate}
+use lib.ListN.{length}
 use borrow.Author.Needs.{needs}
 use borrow.Author.Tests.{not-true, not-false}
 use Rattle.storage.proofs.Maps.{fine, area-small}
 use Rattle.engine.specs.Filling.{fits}
-use Rattle.engine.specs.Turns.{OfMap}
 use Rattle.engine.proofs.Fillings.{Fits, fits-is, fills, leaves-it}
 use Rattle.engine.proofs.fill_totals.Statement.{statement}
 use Rattle.engine.proofs.fill_totals.Tie as tie
@@ -22,8 +20,11 @@ returns c = leaves-it _ _ _ _ _ (sym (c .before .fit .ensures) ∙ not-true _ (c
 
 -- What is known past the test.
 module _ (c : tie.Else1) where
-  pub known : Fits (c .before .before .before .before .args .map) (c .before .before .before .before .args .start .0) (length (now (c .before .before .before .before .args .efforts))) (length (now (c .before .before .before .before .args .totals)))
-  known = fits-is _ _ _ _ (sym (c .before .fit .ensures) ∙ not-false _ (c .if1 .left))
+  pub passed : let x = c .before .before .before .before .args in fits (x .map) (x .start .0) (length (now (x .efforts))) (length (now (x .totals))) ≡ true
+  passed = sym (c .before .fit .ensures) ∙ not-false _ (c .if1 .left)
+
+  pub known : let x = c .before .before .before .before .args in Fits (x .map) (x .start .0) (length (now (x .efforts))) (length (now (x .totals)))
+  known = fits-is _ _ _ _ passed
 
 cast-settle : tie.Need-cast-settle
 cast-settle c = search needs
@@ -50,7 +51,7 @@ returns-2 c =
     let w = c .before .before in
     let s = w .before .before .before in
     let e = s .before .before in
-    fills _ _ _ _ _ (known e) (λ i. omega (arith, e .before .before .before .shared-slice-known .given i)) (s .settle .result) _ (s .settle .ensures) (w .write-totals .ensures) (sym (e .before .fit .ensures) ∙ not-false _ (e .if1 .left))
+    fills _ _ _ _ _ (known e) (λ i. omega (arith, e .before .before .before .shared-slice-known .given i)) (s .settle .result) _ (s .settle .ensures) (w .write-totals .ensures) (passed e)
 
 pub fill-totals-spec : {M : Type 1} → statement M
 fill-totals-spec =

@@ -1,31 +1,35 @@
 -- `prices` meets its contract: the costs below d are laid.
-use mathlib.Core.Path.{_≡_, refl}
+use mathlib.Core.Path.{_≡_, ap, _∙_}
 use Prim.Native.Nat.{_-_, _≤_}
 use denote.Ref.{now}
 use native.Mathlib.Omega.{arith}
 use lib.ListN.{getD}
-use Rattle.engine.specs.Steps.{priceAt, Laid}
-use Rattle.engine.proofs.StepCosts.{laid-next}
+use Rattle.terrain.specs.LandOfMap.{priceOf}
+use Rattle.engine.specs.Steps.{effortAt, Laid}
+use Rattle.engine.proofs.StepCosts.{laid-none, laid-next}
 use Rattle.engine.proofs.costs.prices.Statement.{statement}
 use Rattle.engine.proofs.costs.prices.Tie as tie
 
 abbrev Inv-loop : tie.InvT-loop
-Inv-loop efforts to costs₀ d₀ costs d = (d ≤ 6) × Laid (λ k. priceAt efforts (getD to k 0)) d costs
+Inv-loop efforts to costs₀ d₀ costs d = (d ≤ 6) × Laid (λ k. priceOf (effortAt efforts (getD to k 0))) d costs
 
 abbrev μ-loop : tie.MeasureT-loop
 μ-loop efforts to costs₀ d₀ costs d = 6 - d
 
 loop-holds : tie.Need-loop-holds Inv-loop μ-loop
-loop-holds c = (omega arith, record { six = refl; each = λ d h. absurd (omega (arith, h)); small = λ d h. absurd (omega (arith, h)) })
+loop-holds c = (omega arith, laid-none)
 
-mul-price-at : tie.Need-mul-price-at Inv-loop μ-loop
-mul-price-at c = omega arith
+mul-effort-at : tie.Need-mul-effort-at Inv-loop μ-loop
+mul-effort-at c = omega arith
 
-array-read-price-at : tie.Need-array-read-price-at Inv-loop μ-loop
-array-read-price-at c = omega arith
+array-read-effort-at : tie.Need-array-read-effort-at Inv-loop μ-loop
+array-read-effort-at c = omega arith
 
-price-at-requires : tie.Need-price-at-requires Inv-loop μ-loop
-price-at-requires c κs = tt
+effort-at-requires : tie.Need-effort-at-requires Inv-loop μ-loop
+effort-at-requires c κs = tt
+
+price-of-requires : tie.Need-price-of-requires Inv-loop μ-loop
+price-of-requires c κs = tt
 
 mul-costs : tie.Need-mul-costs Inv-loop μ-loop
 mul-costs c = omega arith
@@ -41,9 +45,10 @@ loop-less c = omega arith
 
 loop-again : tie.Need-loop-again Inv-loop μ-loop
 loop-again c =
-    let l = c .before .before in
+    let t = c .before in
+    let l = t .before .before in
     let x = l .before .before .args in
-    (omega arith, laid-next (λ k. priceAt (now (x .efforts)) (getD (x .t2) k 0)) (l .loop .costs) (l .loop .d) (c .price-at .result) (omega arith) (c .price-at .ensures .0) (c .price-at .ensures .1) (l .loop .inv .1))
+    (omega arith, laid-next (λ k. priceOf (effortAt (now (x .efforts)) (getD (x .t2) k 0))) (l .loop .costs) (l .loop .d) (c .price-of .result) (omega arith) (c .price-of .ensures .0 ∙ ap priceOf (t .effort-at .ensures)) (omega (arith, c .price-of .ensures .1)) (l .loop .inv .1))
 
 returns : tie.Need-returns Inv-loop μ-loop
 returns c =
@@ -58,9 +63,10 @@ prices-spec =
     Inv-loop
     μ-loop
     loop-holds
-    mul-price-at
-    array-read-price-at
-    price-at-requires
+    mul-effort-at
+    array-read-effort-at
+    effort-at-requires
+    price-of-requires
     mul-costs
     array-write-costs
     add-d

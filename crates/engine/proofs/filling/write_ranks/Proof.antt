@@ -1,5 +1,5 @@
 -- `write_ranks` meets its contract: before each turn the ranks of the tiles passed stand in the table.
-use mathlib.Core.Path.{refl, sym, ap, _∙_}
+use mathlib.Core.Path.{refl, ap, _∙_}
 use Prim.Native.Nat.{_-_}
 use denote.Ref.{now}
 use native.Mathlib.Omega.{arith}

@@ -1,5 +1,5 @@
 -- `write_totals` meets its contract: before each turn the totals of the tiles passed stand in the table.
-use mathlib.Core.Path.{refl, sym, ap, _∙_}
+use mathlib.Core.Path.{refl, ap, _∙_}
 use Prim.Native.Nat.{ℕ, _-_, min}
 use denote.Ref.{now}
 use native.Mathlib.Omega.{arith}

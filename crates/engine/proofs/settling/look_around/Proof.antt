@@ -9,10 +9,10 @@ use Rattle.engine.proofs.settling.look_around.Statement.{statement}
 use Rattle.engine.proofs.settling.look_around.Tie as tie
 
 abbrev Inv-loop : tie.InvT-loop
-Inv-loop tree₀ a base budget beside costs d₀ tree d = (d ≤ 6) × Kept a base tree₀ tree × LookedAround a base budget beside costs d tree₀ tree
+Inv-loop tree₀ a base budget to costs d₀ tree d = (d ≤ 6) × Kept a base tree₀ tree × LookedAround a base budget to costs d tree₀ tree
 
 abbrev μ-loop : tie.MeasureT-loop
-μ-loop tree₀ a base budget beside costs d₀ tree d = 6 - d
+μ-loop tree₀ a base budget to costs d₀ tree d = 6 - d
 
 loop-holds : tie.Need-loop-holds Inv-loop μ-loop
 loop-holds c =

@@ -6,8 +6,8 @@ use native.Mathlib.Omega.{arith}
 use lib.ListN.{getD}
 use borrow.Author.Needs.{needs}
 use Rattle.storage.specs.Leaves.{nearIn}
-use Rattle.terrain.specs.LandOfMap.{against}
-use Rattle.engine.specs.Steps.{priceAt, weightOut, weightInto, toOf, costOf, StepsOf}
+use Rattle.terrain.specs.LandOfMap.{priceOf, against}
+use Rattle.engine.specs.Steps.{effortAt, weightOut, weightInto, toOf, costOf, StepsOf}
 use Rattle.engine.specs.declared.steps.Table.{Table}
 use Rattle.engine.proofs.StepCosts.{laid-like}
 use Rattle.engine.proofs.steps.steps_out.Statement.{statement}
@@ -44,7 +44,7 @@ returns c =
     let x = b .before .before .args in
     let E = now (x .efforts) in
     subst (λ (table : Table). StepsOf (toOf table (x .map) (x .u)) (costOf table (x .map) E (x .u)) (record { to = b .beside .result; costs = c .prices .result })) (sym (t .enum-told .given .1))
-    (record { leads = b .beside .ensures; costs = laid-like (λ d h. ap (priceAt E) (b .beside .ensures d h)) (c .prices .ensures) })
+    (record { leads = b .beside .ensures; costs = laid-like (λ d h. ap (λ (t : ℕ). priceOf (effortAt E t)) (b .beside .ensures d h)) (c .prices .ensures) })
 
 returns-2 : tie.Need-returns-2
 returns-2 c =
@@ -55,7 +55,7 @@ returns-2 c =
     let E = now (x .efforts) in
     let leads : (d : ℕ) → d < 6 → getD (o .turned .result) d 0 ≡ nearIn (x .map) (x .u) (against d) = λ d h. o .turned .ensures d h ∙ b .beside .ensures (against d) (omega arith) in
     subst (λ (table : Table). StepsOf (toOf table (x .map) (x .u)) (costOf table (x .map) E (x .u)) (record { to = o .turned .result; costs = c .weights .result })) (sym (t .enum-told2 .given .1))
-    (record { leads = leads; costs = laid-like (λ d h. ap (weightInto E (weightOut (getD E (x .u) 0))) (leads d h)) (c .weights .ensures) })
+    (record { leads = leads; costs = laid-like (λ d h. ap (λ (t : ℕ). weightInto (weightOut (getD E (x .u) 0)) (effortAt E t)) (leads d h)) (c .weights .ensures) })
 
 pub steps-out-spec : {M : Type 1} → statement M
 steps-out-spec =

@@ -30,7 +30,7 @@ turn-requires : tie.Need-turn-requires Inv-loop μ-loop
 turn-requires c κs =
     let l = c .before .before .before in
     let p = l .before .before .before .pre in
-    (l .loop .inv .0, (p .1 .0, (c .before .if1 .taken, p .1 .1)))
+    (l .loop .inv .0, (p .1 .0, (omega (arith, c .before .if1 .taken), p .1 .1)))
 
 loop-less : tie.Need-loop-less Inv-loop μ-loop
 loop-less c = c .before .before .turn .ensures .falls
@@ -48,7 +48,7 @@ returns : tie.Need-returns Inv-loop μ-loop
 returns c =
     let l = c .before .before in
     let x = l .before .before .before .args in
-    λ G s paved g. going-done G s (x .budget) (x .a) (l .loop .tree) (l .loop .inv .0) (c .if1 .left) (l .loop .inv .2 G paved s g)
+    λ G s paved g. going-done G s (x .budget) (x .a) (l .loop .tree) (l .loop .inv .0) (omega (arith, c .if1 .left)) (l .loop .inv .2 G paved s g)
 
 pub turns-spec : {M : Type 1} → statement M
 turns-spec =
