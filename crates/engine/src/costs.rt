@@ -8,9 +8,6 @@ ghost use Rattle.terrain.specs.LandOfMap.{priceOf};
 ghost use Rattle.engine.specs.Leaves.{largestTotal};
 ghost use Rattle.engine.specs.Steps.{effortAt, weightOut, weightInto, Laid};
 
-// What one unit of effort counts in a rank. `Rattle.routes.specs.Ranks` names the same number for the promises.
-const MULTIPLIER: u64 = 65_536;
-
 // The effort of the tile of an index. Where there is no such tile, nobody may enter.
 fn effort_at(efforts: &[u16], index: u32) -> u16
     ensures { λ r. ⌜ r ≡ effortAt (now (efforts .entry)) index ⌝ }
@@ -39,7 +36,7 @@ fn weight_out(effort: u16) -> u64
     ensures { λ r. ⌜ r ≤ largestTotal ⌝ }
 {
     if effort < limits::BARRED {
-        effort as u64 * MULTIPLIER + 1
+        effort as u64 * limits::RANK_UNIT + 1
     } else {
         0
     }

@@ -14,9 +14,6 @@ ghost use Rattle.engine.specs.Filling.{fits};
 ghost use Rattle.engine.specs.Settling.{totals};
 ghost use Rattle.engine.specs.Writing.{rankOf, Written};
 
-// The rank where there is no route. `Rattle.routes.specs.Ranks` names the same number for the promises.
-const NO_RANK: u64 = 18_446_744_073_709_551_615;
-
 // Is the tile that sums start from an index of the map, and has each table an entry for each of its tiles?
 pub(crate) fn fit(map: Map, start: Index, efforts: usize, table: usize) -> bool
     ensures { λ r. ⌜ r ≡ fits map (start .0) efforts table ⌝ }
@@ -55,7 +52,11 @@ pub(crate) fn write_totals(tree: &[u64], table: &mut [u32])
 fn rank_of(total: u64) -> u64
     ensures { λ r. ⌜ r ≡ rankOf total ⌝ }
 {
-    if total < NO_TOTAL { total } else { NO_RANK }
+    if total < NO_TOTAL {
+        total
+    } else {
+        limits::NO_RANK
+    }
 }
 
 // Writes the ranks that the leaves tell.
@@ -78,7 +79,7 @@ pub(crate) fn write_no_ranks(table: &mut [u64])
     let a = table.len();
     let mut i: usize = 0;
     while i < a {
-        table[i] = NO_RANK;
+        table[i] = limits::NO_RANK;
         i += 1;
     }
 }

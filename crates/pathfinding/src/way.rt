@@ -21,12 +21,6 @@ ghost use Rattle.storage.specs.Maps.{mapRefusal, areaOf};
 ghost use Rattle.terrain.specs.GroundOfMap.{groundOf};
 ghost use Rattle.pathfinding.specs.Ways.{Ranked, offerOf, LaysDown, TellsWay};
 
-// What one unit of cost counts in a rank.
-const MULTIPLIER: u64 = 65_536;
-
-// The rank where there is no route.
-const NO_RANK: u64 = 18_446_744_073_709_551_615;
-
 // Does the step from an open tile of a rank into tile t make up that rank? An index of the area or more is no tile.
 fn makes(efforts: &[u16], ranks: &[u64], t: usize, rank: u64) -> bool
     requires { ⌜ length (now efforts) ≡ length (now ranks) ⌝ }
@@ -40,7 +34,7 @@ fn makes(efforts: &[u16], ranks: &[u64], t: usize, rank: u64) -> bool
     if effort >= limits::BARRED {
         return false;
     }
-    let weight = effort as u64 * MULTIPLIER + 1;
+    let weight = effort as u64 * limits::RANK_UNIT + 1;
     if rank < weight {
         return false;
     }
@@ -117,10 +111,10 @@ pub(crate) fn led(
     ensures { λ r. ⌜ TellsWay map (now (efforts .entry)) (now (ranks .entry)) start end (now (run .entry)) r (now (run .exit)) ⌝ }
 {
     let rank = ranks[start];
-    if rank == NO_RANK {
+    if rank == limits::NO_RANK {
         return ListAnswer::Refused(refusals::NO_OPEN_PATH);
     }
-    let tiles = (rank % MULTIPLIER) as u32 + 1;
+    let tiles = (rank % limits::RANK_UNIT) as u32 + 1;
     if run.len() < 2 * tiles as usize {
         return ListAnswer::Refused(refusals::RUN_TOO_SHORT);
     }
