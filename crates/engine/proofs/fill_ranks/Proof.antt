@@ -47,7 +47,7 @@ returns-2 c =
     let w = c .before .before in
     let t = w .before .before in
     let e = t .before .before .before in
-    no-ranks _ _ _ _ (known e) (passed e) _ (t .if2 .taken) (w .write-no-ranks .ensures)
+    no-ranks _ _ _ _ (known e) (passed e) _ (omega (arith, t .if2 .taken)) (w .write-no-ranks .ensures)
 
 settle-requires : tie.Need-settle-requires
 settle-requires c κs =
@@ -72,7 +72,7 @@ returns-3 c =
     let s = w .before .before .before in
     let t = s .before in
     let e = t .before .before .before in
-    fills-ranks _ _ _ _ (known e) (passed e) _ (t .if2 .left) (s .settle .result) (s .settle .ensures) (w .write-ranks .ensures)
+    fills-ranks _ _ _ _ (known e) (passed e) _ (omega (arith, t .if2 .left)) (s .settle .result) (s .settle .ensures) (w .write-ranks .ensures)
 
 pub fill-ranks-spec : {M : Type 1} → statement M
 fill-ranks-spec =

@@ -5,10 +5,10 @@ use Rattle.engine.proofs.costs.weight_into.Statement.{statement}
 use Rattle.engine.proofs.costs.weight_into.Tie as tie
 
 returns : tie.Need-returns
-returns c = let x = c .before .args in (weight-into-barred (x .effort) (x .weight) (c .if1 .taken), omega arith)
+returns c = let x = c .before .args in (weight-into-barred (x .effort) (x .weight) (omega (arith, c .if1 .taken)), omega arith)
 
 returns-2 : tie.Need-returns-2
-returns-2 c = let x = c .before .args in (weight-into-open (x .effort) (x .weight) (c .if1 .left), c .before .pre)
+returns-2 c = let x = c .before .args in (weight-into-open (x .effort) (x .weight) (omega (arith, c .if1 .left)), c .before .pre)
 
 pub weight-into-spec : {M : Type 1} → statement M
 weight-into-spec = tie.close (tie.spec returns returns-2)
