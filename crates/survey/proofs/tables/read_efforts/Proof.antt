@@ -3,8 +3,8 @@ use Prim.Native.Nat.{_≤_, _-_}
 use mathlib.Core.Path.{_≡_}
 use lib.ListN.{length}
 use borrow.Author.Needs.{needs}
-use Rattle.valley.proofs.tables.read_efforts.Statement.{statement}
-use Rattle.valley.proofs.tables.read_efforts.Tie as tie
+use Rattle.survey.proofs.tables.read_efforts.Statement.{statement}
+use Rattle.survey.proofs.tables.read_efforts.Tie as tie
 
 abbrev Inv-loop : tie.InvT-loop
 Inv-loop words from efforts₀ i₀ efforts i = (i ≤ length efforts) × (length efforts ≡ length efforts₀)

@@ -1,9 +1,9 @@
--- `run` is safe: the part of the words that were read has their count.
+-- `told` is safe: the part of the words that were read has their count.
 use native.Mathlib.Omega.{arith}
 use lib.ListN.{length-take}
 use borrow.Author.Needs.{needs}
-use Rattle.valley.proofs.run.Statement.{statement}
-use Rattle.valley.proofs.run.Tie as tie
+use Rattle.survey.proofs.told.Statement.{statement}
+use Rattle.survey.proofs.told.Tie as tie
 
 slice-aggregate-read-words : tie.Need-slice-aggregate-read-words
 slice-aggregate-read-words c = search needs
@@ -26,8 +26,8 @@ returns c = search needs
 returns-2 : tie.Need-returns-2
 returns-2 c = search needs
 
-pub run-spec : {M : Type 1} → statement M
-run-spec =
+pub told-spec : {M : Type 1} → statement M
+told-spec =
     tie.close
     (tie.spec
     slice-aggregate-read-words

@@ -2,8 +2,8 @@
 use native.Mathlib.Omega.{arith}
 use lib.ListN.{length-take}
 use borrow.Author.Needs.{needs}
-use Rattle.valley.proofs.ride.route_told.Statement.{statement}
-use Rattle.valley.proofs.ride.route_told.Tie as tie
+use Rattle.survey.proofs.ride.route_told.Statement.{statement}
+use Rattle.survey.proofs.ride.route_told.Tie as tie
 
 array-borrow-prefix-ranks : tie.Need-array-borrow-prefix-ranks
 array-borrow-prefix-ranks c = search needs

@@ -2,8 +2,8 @@
 use native.Mathlib.Omega.{arith}
 use lib.ListN.{length-take}
 use borrow.Author.Needs.{needs}
-use Rattle.valley.proofs.ride.with_tables.Statement.{statement}
-use Rattle.valley.proofs.ride.with_tables.Tie as tie
+use Rattle.survey.proofs.ride.with_tables.Statement.{statement}
+use Rattle.survey.proofs.ride.with_tables.Tie as tie
 
 area-requires : tie.Need-area-requires
 area-requires c κs = search needs

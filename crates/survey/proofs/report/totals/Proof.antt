@@ -2,8 +2,8 @@
 use Prim.Native.Nat.{_≤_, _-_}
 use lib.ListN.{length}
 use borrow.Author.Needs.{needs}
-use Rattle.valley.proofs.report.totals.Statement.{statement}
-use Rattle.valley.proofs.report.totals.Tie as tie
+use Rattle.survey.proofs.report.totals.Statement.{statement}
+use Rattle.survey.proofs.report.totals.Tie as tie
 
 abbrev Inv-loop : tie.InvT-loop
 Inv-loop totals i₀ i = i ≤ length totals

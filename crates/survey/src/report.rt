@@ -1,6 +1,7 @@
 // What is printed: answers, refusals, and what could not be read.
 
 use hex::limits;
+use hex::refusals;
 use libc::STDOUT_FILENO;
 use questions::answer::wide;
 
@@ -16,14 +17,16 @@ pub(crate) fn refused(number: u32) {
     end_line();
 }
 
-// The verdict of the totals check: `check accepted`, or the number and the index at which the neighbour rule is broken.
+// The verdict of the totals check: `check accepted`; or the refusal, with the index at which the neighbour rule is broken where it is one of the totals.
 pub(crate) fn verdict(number: u32, broken: u32) {
     if number == 0 {
         io::write_all(STDOUT_FILENO, b"check accepted\n");
         return;
     }
     labelled(b"refused ", number as u64);
-    labelled(b" at ", broken as u64);
+    if number == refusals::NOT_RIGHT {
+        labelled(b" at ", broken as u64);
+    }
     end_line();
 }
 

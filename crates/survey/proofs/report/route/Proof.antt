@@ -1,8 +1,8 @@
 -- `route` is safe and ends: the tiles are counted up to their number.
 use Prim.Native.Nat.{_≤_, _-_}
 use borrow.Author.Needs.{needs}
-use Rattle.valley.proofs.report.route.Statement.{statement}
-use Rattle.valley.proofs.report.route.Tie as tie
+use Rattle.survey.proofs.report.route.Statement.{statement}
+use Rattle.survey.proofs.report.route.Tie as tie
 
 abbrev Inv-loop : tie.InvT-loop
 Inv-loop tiles run i₀ i = i ≤ tiles
