@@ -34,7 +34,7 @@ fn on_map(checks: bool, words: &[i64], map: Map) {
     }
 }
 
-// Lends tables with an entry for each tile.
+// Lends tables with an entry for each tile, and has them read.
 fn with_tables(checks: bool, words: &[i64], map: Map, ride: Ride) {
     let area = storage::area(map) as usize;
     // No map has more tiles, but the area alone does not say so.
@@ -53,7 +53,7 @@ fn with_tables(checks: bool, words: &[i64], map: Map, ride: Ride) {
     );
 }
 
-// Reads the efforts.
+// Reads the efforts, and goes on to the totals of a check, or to the plan.
 fn with_efforts(
     checks: bool,
     words: &[i64],
@@ -118,7 +118,7 @@ fn planned(map: Map, ride: Ride, efforts: &[u16], totals: &mut [u32])
     route_told(map, ride, efforts);
 }
 
-// Tells the route, for which any route of the map has room.
+// Tells the route. The run that it is written to has room for every tile of the largest map.
 fn route_told(map: Map, ride: Ride, efforts: &[u16])
     requires { ⌜ length (now efforts) ≤ 10981 ⌝ }
 {
