@@ -1,4 +1,4 @@
-//! What the library is measured against: the riding range as one would write it in plain Rust, Dijkstra's algorithm over a
+//! What the library is measured against: the riding range and the ranks as one would write them in plain Rust, Dijkstra's algorithm over a
 //! binary heap of the standard library, with neighbours worked out tile by tile from the formulas of the dense index.
 
 use crate::maps::{area, STEPS};
@@ -11,6 +11,12 @@ pub const BARRED: u16 = u16::MAX;
 /// The total of a tile to which no way leads.
 pub const NO_WAY: u32 = u32::MAX;
 
+/// The rank of a tile from which no route leads to the end.
+pub const NO_ROUTE: u64 = u64::MAX;
+
+/// What one unit of cost counts in a rank.
+const MULTIPLIER: u64 = 65_536;
+
 /// The dense index of a tile, relative to the centre, or none where it is not of the map.
 pub fn index_of(x: i64, y: i64, radius: i64) -> Option<usize> {
     if x.abs() > radius || y.abs() > radius || (x + y).abs() > radius {
@@ -20,7 +26,7 @@ pub fn index_of(x: i64, y: i64, radius: i64) -> Option<usize> {
 }
 
 /// The tile, relative to the centre, that has a dense index.
-fn tile_of(index: usize, radius: i64) -> (i64, i64) {
+pub fn tile_of(index: usize, radius: i64) -> (i64, i64) {
     let index = index as i64;
     let shifts = (index + radius) / (3 * radius + 2);
     let turns = (index + 2 * radius) / (3 * radius + 1);
@@ -56,6 +62,53 @@ pub fn range(radius: i64, efforts: &[u16], start: usize, budget: u32, totals: &m
             }
         }
     }
+}
+
+/// What entering a tile adds to a rank.
+fn weight(effort: u16) -> u64 {
+    effort as u64 * MULTIPLIER + 1
+}
+
+/// Fills the rank of every tile to an end, over routes of open tiles.
+pub fn ranks(radius: i64, efforts: &[u16], end: usize, ranks: &mut [u64]) {
+    ranks.fill(NO_ROUTE);
+    if efforts[end] == BARRED {
+        return;
+    }
+    ranks[end] = 0;
+    let mut open = BinaryHeap::new();
+    open.push(Reverse((0u64, end as u32)));
+    while let Some(Reverse((rank, index))) = open.pop() {
+        let index = index as usize;
+        if rank > ranks[index] {
+            continue;
+        }
+        let (x, y) = tile_of(index, radius);
+        let sum = rank + weight(efforts[index]);
+        for (dx, dy) in STEPS {
+            let Some(next) = index_of(x + dx, y + dy, radius) else {
+                continue;
+            };
+            if efforts[next] != BARRED && sum < ranks[next] {
+                ranks[next] = sum;
+                open.push(Reverse((sum, next as u32)));
+            }
+        }
+    }
+}
+
+/// The tiles of the best route, relative to the centre, down a table of ranks that has one for the start.
+pub fn route(radius: i64, efforts: &[u16], ranks: &[u64], start: usize) -> Vec<(i64, i64)> {
+    let mut index = start;
+    let mut tiles = vec![tile_of(start, radius)];
+    while ranks[index] > 0 {
+        let (x, y) = tile_of(index, radius);
+        let beside = STEPS.iter().filter_map(|(dx, dy)| index_of(x + dx, y + dy, radius));
+        let mut open = beside.filter(|&next| ranks[next] != NO_ROUTE);
+        index = open.find(|&next| ranks[next] + weight(efforts[next]) == ranks[index]).expect("a rank has a next tile");
+        tiles.push(tile_of(index, radius));
+    }
+    tiles
 }
 
 /// What the neighbour rule wants at a tile: the smallest total beside it and the price of entering it.

@@ -1,6 +1,6 @@
 //! The maps that are measured on: efforts by dense index, and the tile that the ride starts from.
 
-use crate::baseline::{index_of, BARRED};
+use crate::baseline::{self, index_of, BARRED, NO_ROUTE};
 
 /// The six steps, in the order of their direction numbers.
 pub const STEPS: [(i64, i64); 6] = [(1, 0), (1, -1), (0, -1), (-1, 0), (-1, 1), (0, 1)];
@@ -17,6 +17,14 @@ impl Land {
     /// The dense index of the start.
     pub fn start_index(&self) -> usize {
         index_of(self.start.0, self.start.1, self.radius).expect("the start is of the map")
+    }
+
+    /// The dense index of the tile whose way to the start ranks last.
+    pub fn farthest_index(&self) -> usize {
+        let mut ranks = vec![0; self.efforts.len()];
+        baseline::ranks(self.radius, &self.efforts, self.start_index(), &mut ranks);
+        let ranked = (0..ranks.len()).filter(|&index| ranks[index] != NO_ROUTE);
+        ranked.max_by_key(|&index| ranks[index]).expect("the start has a rank")
     }
 }
 

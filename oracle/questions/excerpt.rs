@@ -46,6 +46,12 @@ pub fn of_ranges(ranges: &Sheet) -> Sheet {
     kept(ranges, heading, range_named)
 }
 
+/// The lines of the sheet of routes that are kept, with all its comments. No rule names one.
+pub fn of_routes(routes: &Sheet) -> Sheet {
+    let heading = "A part of the best routes and ranks, chosen by fixed rules.";
+    kept(routes, heading, |_| false)
+}
+
 /// The lines of a sheet that a rule names, and of the others each one after a fixed number.
 fn kept(whole: &Sheet, heading: &str, named: fn(&[i64]) -> bool) -> Sheet {
     let mut sheet = Sheet::new(heading);

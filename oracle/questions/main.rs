@@ -16,6 +16,7 @@ mod places;
 mod ranges;
 mod rides;
 mod rings;
+mod routes;
 mod samples;
 mod sheet;
 
@@ -78,6 +79,17 @@ fn module5() -> Sheet {
     sheet
 }
 
+/// The questions about routes that the paper accepts, and those that no open path makes.
+fn routes() -> Sheet {
+    let mut sheet = Sheet::new(
+        "Best routes and ranks by the paper; each cost was compared with that of the crate hexx 0.25.0.\n\
+         The map is three words, the start and the end two each; then come the lengths of the tables\n\
+         and of the run. A rank is its cost and its steps, or -1 and 0 where there is no route.",
+    );
+    routes::ask(&mut sheet);
+    sheet
+}
+
 /// The questions on which the paper decides against the crate.
 fn differences() -> Sheet {
     let mut sheet = Sheet::new(
@@ -92,6 +104,7 @@ fn differences() -> Sheet {
     counts::differences(&mut sheet);
     maps::differences(&mut sheet);
     ranges::differences(&mut sheet);
+    routes::differences(&mut sheet);
     sheet
 }
 
@@ -103,6 +116,8 @@ fn write_all(folder: &Path) {
     let sample4 = excerpt::of_maps(&module4);
     let module5 = module5();
     let sample5 = excerpt::of_ranges(&module5);
+    let routes = routes();
+    let sample_routes = excerpt::of_routes(&routes);
     for (name, sheet) in [
         ("module12.txt", module12()),
         ("module3.txt", module3),
@@ -111,6 +126,8 @@ fn write_all(folder: &Path) {
         ("sample4.txt", sample4),
         ("module5.txt", module5),
         ("sample5.txt", sample5),
+        ("routes.txt", routes),
+        ("sample_routes.txt", sample_routes),
         ("differences.txt", differences()),
     ] {
         if let Err(cause) = std::fs::write(folder.join(name), sheet.text()) {

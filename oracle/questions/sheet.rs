@@ -26,11 +26,13 @@ pub const TO_ROW_COLUMN: i64 = 24;
 pub const FROM_ROW_COLUMN: i64 = 25;
 pub const RIDING_RANGE: i64 = 30;
 pub const TOTALS_CHECK: i64 = 31;
+pub const ROUTE: i64 = 40;
 
-/// The refusal number of an accepted question, of what is not of the map, and of a table that is
-/// not right.
+/// The refusal number of an accepted question, of what is not of the map, of a route that no open
+/// path makes, and of a table that is not right.
 pub const ACCEPTED: i64 = 0;
 pub const NOT_OF_MAP: i64 = 5;
+pub const NO_OPEN_PATH: i64 = 8;
 pub const NOT_RIGHT: i64 = 9;
 
 pub struct Sheet {

@@ -1,4 +1,5 @@
--- What the calls for C promise: what the calls of the field of movement promise, over a map and a start given by their numbers, with an answer that is 0 or minus the number.
+-- What the calls for C promise: what the calls of the field of movement and the route promise, over a map and tiles given by their numbers, with an answer that is the result or minus the
+-- number of the refusal.
 use mathlib.Core.Path.{_≡_}
 use mathlib.Core.Bool.{cond}
 use mathlib.Core.List.{List}
@@ -11,9 +12,16 @@ use Rattle.hex.specs.Tiles.{tile}
 use Rattle.hex.specs.declared.Tile.{Tile}
 use Rattle.storage.specs.declared.Map.{Map}
 use Rattle.field_of_movement.specs.Calls.{Ranges, Checks}
+use Rattle.pathfinding.specs.Calls.{Routes}
+use Rattle.runs.specs.declared.ListAnswer.{ListAnswer}
 
 abbrev pub minus : ℕ → ℤ
 minus n = pos 0 -ℤ pos n
+
+-- The answer of a call that lists: the number of tiles, or minus the number of the refusal.
+abbrev pub answerOf : ListAnswer → ℤ
+answerOf (ListAnswer.Listed tiles) = pos tiles
+answerOf (ListAnswer.Refused number) = minus number
 
 -- The map of a centre and a radius.
 abbrev pub mapAt : ℤ → ℤ → ℕ → Map
@@ -36,3 +44,9 @@ pub record CheckCall (map : Map) (efforts : List ℕ) (start : Tile) (budget : �
   pub answers : answer ≡ minus number
   pub checks : Checks map efforts start budget totals number index
   pub notes : after ≡ noted number index before
+
+-- The route answers its number of tiles or minus its number, `before` becomes `after` in the rank table, and `entry` becomes `exit` in the run.
+pub record RouteCall (map : Map) (efforts : List ℕ) (start end : Tile) (before after : List ℕ) (entry exit : List ℤ) (answer : ℤ) : Type 0 where
+  pub list : ListAnswer
+  pub answers : answer ≡ answerOf list
+  pub routes : Routes map efforts start end before entry list after exit

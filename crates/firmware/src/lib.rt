@@ -1,11 +1,12 @@
-// The calls for a program in C, such as the firmware of a handheld: each takes plain numbers and lent runs, and answers 0, or minus the number of a refusal. C passes a run as
-// two arguments, a pointer and a count of entries.
+// The calls for a program in C, such as the firmware of a handheld: each takes plain numbers and lent runs, and answers a result, which is 0 where a lent run holds it, or minus
+// the number of a refusal. C passes a run as two arguments, a pointer and a count of entries.
 
 ghost use mathlib.Core.Path.{_≡_};
 ghost use Rattle.hex.specs.Tiles.{tile};
-ghost use Rattle.firmware.specs.Calls.{minus, mapAt, noted, RangeCall, CheckCall};
+ghost use Rattle.firmware.specs.Calls.{minus, mapAt, noted, answerOf, RangeCall, CheckCall, RouteCall};
 use hex::Tile;
 use hex::refusals;
+use runs::ListAnswer;
 use storage::Map;
 
 // A number as C is told it.
@@ -36,6 +37,16 @@ fn note(broken: &mut [u32], number: u32, index: u32)
         return;
     }
     broken[0] = index;
+}
+
+// The answer of a call that lists, as C is told it.
+fn told_list(answer: ListAnswer) -> i64
+    ensures { λ r. ⌜ r ≡ answerOf answer ⌝ }
+{
+    match answer {
+        ListAnswer::Listed(tiles) => tiles as i64,
+        ListAnswer::Refused(number) => told(number),
+    }
 }
 
 // The riding range, written to `totals` by dense index.
@@ -77,4 +88,26 @@ pub extern "C" fn kyrla_check(
     let verdict = field_of_movement::check_totals(map, efforts, start, budget, totals);
     note(broken, verdict.number, verdict.broken.0);
     told(verdict.number)
+}
+
+// The best route, its tiles written to `run`, x then y, and the rank of every tile to the end written to `ranks` by dense index. It answers the number of tiles.
+#[no_mangle]
+pub extern "C" fn kyrla_route(
+    cx: i32,
+    cy: i32,
+    radius: u32,
+    efforts: &[u16],
+    sx: i32,
+    sy: i32,
+    ex: i32,
+    ey: i32,
+    ranks: &mut [u64],
+    run: &mut [i32],
+) -> i64
+    ensures { λ r. ⌜ RouteCall (mapAt cx cy radius) (now (efforts .entry)) (tile sx sy) (tile ex ey) (now (ranks .entry)) (now (ranks .exit)) (now (run .entry)) (now (run .exit)) r ⌝ }
+{
+    let map = map_at(cx, cy, radius);
+    let start = Tile { x: sx, y: sy };
+    let end = Tile { x: ex, y: ey };
+    told_list(pathfinding::route(map, efforts, start, end, ranks, run))
 }

@@ -22,12 +22,13 @@ pub(crate) fn judged(words: &[i64], numbers: &mut [i64]) -> Verdict {
     compared(kind, length, words, took, numbers)
 }
 
-// Asks the question, and lays out its answer: of a list, of a map, of a table over a map, or of any other kind.
+// Asks the question, and lays out its answer: of a list, of a map, of a table over a map, of a route, or of any other kind.
 fn laid(kind: u32, words: &[i64], numbers: &mut [i64]) -> Laid {
     match kind {
         10..=14 => list_questions::answered(kind, words, numbers),
         20..=29 => map_questions::answered(kind, words, numbers),
         30..=39 => range_questions::answered(kind, words, numbers),
+        40..=49 => route_questions::answered(kind, words, numbers),
         _ => tile_questions::answered(kind, words, numbers),
     }
 }

@@ -1,0 +1,42 @@
+-- `kyrla_route` meets its contract: the route is asked, and its answer told.
+use mathlib.Core.Path.{_∙_}
+use denote.Ref.{now}
+use mir.Syntax.{w64}
+use mir.Facts.{toZ-ofZ}
+use Rattle.whole.proofs.Machine.{read}
+use Rattle.firmware.proofs.Calling.{read-map, read-tile, route-call}
+use borrow.Author.Needs.{needs}
+use Rattle.firmware.proofs.kyrla_route.Statement.{statement}
+use Rattle.firmware.proofs.kyrla_route.Tie as tie
+
+map-at-requires : tie.Need-map-at-requires
+map-at-requires c κs = search needs
+
+route-requires : tie.Need-route-requires
+route-requires c κs = search needs
+
+told-list-requires : tie.Need-told-list-requires
+told-list-requires c κs = search needs
+
+same-length : tie.Need-same-length
+same-length c = search needs
+
+same-length-2 : tie.Need-same-length-2
+same-length-2 c = search needs
+
+returns : tie.Need-returns
+returns c =
+    let r = c .before .before .before .before in
+    let m = r .before .before .before in
+    let s = m .before .before .before in
+    let a = s .args in
+    let made = m .map-at .ensures ∙ read-map (a .radius) (toZ-ofZ (s .fits .cx)) (toZ-ofZ (s .fits .cy)) in
+    let from = read-tile (toZ-ofZ (s .fits .sx)) (toZ-ofZ (s .fits .sy)) in
+    let to = read-tile (toZ-ofZ (s .fits .ex)) (toZ-ofZ (s .fits .ey)) in
+    let answer = read w64 (c .told-list .result) (c .told-list .ok) ∙ c .told-list .ensures in
+    route-call made (now (a .efforts)) from to (now (a .ranks)) _ (now (a .run)) _ (r .route .result) _ answer (r .route .ensures)
+
+pub kyrla-route-spec : {M : Type 1} → statement M
+kyrla-route-spec =
+    tie.close
+    (tie.spec map-at-requires route-requires told-list-requires same-length same-length-2 returns)

@@ -1,0 +1,2 @@
+-- The definition of what the question takes and answers.
+pub mod Taking
