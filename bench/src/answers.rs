@@ -1,5 +1,5 @@
-//! Are the answers right that are to be timed? The library and the baseline must give the same tables and routes, and the check
-//! must accept the tables and refuse damaged ones at the index that a plain scan finds. Anything else ends the program.
+//! Are the answers right that are to be timed? The library and the baseline must give the same tables and routes, and the
+//! check must accept the tables and refuse damaged ones at the index that a plain scan finds. Anything else ends the program.
 
 use crate::baseline::{self, NO_ROUTE, NO_WAY};
 use crate::library;

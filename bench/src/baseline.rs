@@ -1,5 +1,6 @@
-//! What the library is measured against: the riding range and the ranks as one would write them in plain Rust, Dijkstra's algorithm over a
-//! binary heap of the standard library, with neighbours worked out tile by tile from the formulas of the dense index.
+//! What the library is measured against: the riding range and the ranks as one would write them in plain Rust, Dijkstra's
+//! algorithm over a binary heap of the standard library, with neighbours worked out tile by tile from the formulas of the
+//! dense index.
 
 use crate::maps::{area, STEPS};
 use std::cmp::Reverse;

@@ -98,7 +98,7 @@ pub fn check(land: &Land, budget: u32, totals: &[u32], broken: &mut [u32]) -> i6
     }
 }
 
-/// Fills the ranks to the start of the ride and lists the best route to it from a tile, and answers what the library answers.
+/// Fills the ranks to the start of the ride, lists the best route to it from a tile, and answers what the library answers.
 pub fn route(land: &Land, from: (i64, i64), ranks: &mut [u64], run: &mut [i32]) -> i64 {
     let start = told(from);
     let end = told(land.start);

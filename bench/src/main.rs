@@ -1,5 +1,5 @@
-//! The speed of the library's riding range, totals check and route, as shares of the time that plain Rust takes for the range
-//! and for the ranks in the same run; how the time grows with the radius; and the stack that each call takes.
+//! The speed of the library's riding range, totals check and route, as shares of the time that plain Rust takes for the
+//! range and for the ranks in the same run; how the time grows with the radius; and the stack that each call takes.
 
 mod answers;
 mod baseline;

@@ -47,7 +47,8 @@ impl Times {
         }
     }
 
-    /// Takes the times of the ranks alone, which the library is asked for with an empty run, and of the route from the farthest tile.
+    /// Takes the times of the ranks alone, which the library is asked for with an empty run, and of the route from the
+    /// farthest tile.
     fn take_routes(&mut self, land: &Land, rounds: usize) {
         let mut ranks = vec![0; land.efforts.len()];
         let mut others = ranks.clone();

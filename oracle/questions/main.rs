@@ -82,9 +82,9 @@ fn module5() -> Sheet {
 /// The questions about routes that the paper accepts, and those that no open path makes.
 fn routes() -> Sheet {
     let mut sheet = Sheet::new(
-        "Best routes and ranks by the paper; each cost was compared with that of the crate hexx 0.25.0.\n\
-         The map is three words, the start and the end two each; then come the lengths of the tables\n\
-         and of the run. A rank is its cost and its steps, or -1 and 0 where there is no route.",
+        "Best routes and ranks by the paper; their costs were held to those of the crate hexx 0.25.0.\n\
+         The map is three words, the start and the end two each; then come the lengths of the\n\
+         tables and of the run. A rank is its cost and its steps, or -1 and 0 where there is none.",
     );
     routes::ask(&mut sheet);
     sheet

@@ -67,7 +67,7 @@ impl Journey {
         tiles.iter().map(|&tile| *ranks.get(tile).unwrap()).collect()
     }
 
-    /// The tiles of the best route: from the start, always the first direction that makes up the rank.
+    /// The tiles of the best route: from the start on, the first direction that makes up the rank.
     fn best(&self, ranks: &[Rank]) -> Option<Vec<Hex>> {
         let efforts = self.by_tile(&self.efforts);
         let ranks = self.by_tile(ranks);
@@ -109,8 +109,8 @@ impl Journey {
     /// Says whether the crate's route is dearer than the best one. The program stops where it is
     /// cheaper, where only one of the two is there, and where it is dearer though no effort is 0.
     fn dearer(&self, ranks: &[Rank]) -> bool {
-        let costs = [self.best(ranks), self.of_crate()].map(|route| route.map(|route| self.cost(&route)));
-        match costs {
+        let routes = [self.best(ranks), self.of_crate()];
+        match routes.map(|route| route.map(|tiles| self.cost(&tiles))) {
             [None, None] => false,
             [Some(best), Some(told)] if told == best => false,
             [Some(best), Some(told)] if told > best && self.efforts.contains(&0) => true,
@@ -199,7 +199,9 @@ pub fn ask(sheet: &mut Sheet) {
     let generator = &mut Generator::new(0x0A57_A400_0000_000B);
     let centres = &mut Centres::new(0x0CE4_7435_0000_000C);
     let (mut without, mut dearer) = (0, 0);
-    sheet.comment("40 route: 40 map sx sy ex ey efforts ranks entries effort.. number tiles run.. rank..");
+    sheet.comment(
+        "40 route: 40 map sx sy ex ey efforts ranks entries effort.. number tiles run.. rank..",
+    );
     for turn in 0..JOURNEYS {
         let journey = journey(generator, centres.next(), turn);
         let ranks = journey.ranks();
@@ -210,14 +212,18 @@ pub fn ask(sheet: &mut Sheet) {
         journey.line(sheet, &ranks, best, entries);
     }
     let equal = JOURNEYS - without - dearer;
-    println!("Of {JOURNEYS} journeys {without} have no effort of 0: on each the crate's route costs what the best");
-    println!("one does, or neither is there. So it is on {equal} of the others; on {dearer} the crate's is dearer.");
+    println!(
+        "Of {JOURNEYS} journeys {without} have no effort of 0: on each the crate's route costs what \
+         the best one does, or neither is there. So it is on {equal} of the others; on {dearer} the \
+         crate's is dearer."
+    );
 }
 
 pub fn differences(sheet: &mut Sheet) {
     sheet.comment(
-        "40 route, where an effort is 0: the crate takes each step to the end to cost at least 1, and\n\
-         may go a dearer way. On no map with fewer tiles does it. It has no ranks: those are the paper's.",
+        "40 route, where an effort is 0: the crate takes each step to the end to cost at least 1,\n\
+         and may go a dearer way. On no map with fewer tiles does it. It has no ranks: those in the\n\
+         line are the paper's.",
     );
     let Some((journey, ranks)) = smallest() else {
         stop("the crate's route is never dearer on a map of radius 1");
@@ -232,7 +238,8 @@ pub fn differences(sheet: &mut Sheet) {
 fn smallest() -> Option<(Journey, Vec<Rank>)> {
     let mut tables: Vec<u32> = (0..1 << 7).collect();
     tables.sort_by_key(|bits| bits.count_ones());
-    let ends: Vec<(Hex, Hex)> = STEPS.iter().flat_map(|&s| STEPS.iter().map(move |&e| (s, e))).collect();
+    let pairs = STEPS.iter().flat_map(|&start| STEPS.iter().map(move |&end| (start, end)));
+    let ends: Vec<(Hex, Hex)> = pairs.collect();
     let journeys = tables.iter().flat_map(|bits| {
         ends.iter().map(move |&(start, end)| Journey {
             centre: Hex::ZERO,
