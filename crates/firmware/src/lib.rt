@@ -1,6 +1,10 @@
 // The calls for a program in C, such as the firmware of a handheld: each takes plain numbers and lent runs, and answers 0, or minus the number of a refusal. C passes a run as
 // two arguments, a pointer and a count of entries.
 
+mod lists;
+mod numbers;
+mod pairs;
+
 ghost use mathlib.Core.Path.{_≡_};
 ghost use Rattle.hex.specs.Tiles.{tile};
 ghost use Rattle.firmware.specs.Calls.{minus, mapAt, noted, RangeCall, CheckCall};
