@@ -24,7 +24,7 @@ pub record PairCall {A : Type 0} (rule : Told A → Type 0) (laid : A → Tile) 
   pub tells : rule told
   pub lists : ListCall (told .number) (laid (told .value) ∷ []) before after answer
 
--- What an answer tells.
+-- What an answer tells. The contracts of private functions cite this; no promise of a call does.
 abbrev pub toldBy : {A : Type 0} → A → Answer A → Told A
 toldBy zeros (found a) = accepted a
 toldBy zeros (refusal n) = refused zeros n
