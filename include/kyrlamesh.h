@@ -9,7 +9,7 @@
  * A refused call leaves every buffer as it was, but for two: a route that is refused by 7 or 8 has filled the ranks, and a check that
  * answers minus 9 has noted an index.
  *
- * docs/RULES.md has the rules in full. Link with the archive that `rt staticlib firmware` writes.
+ * docs/RULES.md has the rules in full. examples/run shows how the archive to link with is made.
  */
 #ifndef KYRLAMESH_H
 #define KYRLAMESH_H
@@ -86,13 +86,16 @@ int64_t kyrla_ring(int32_t cx, int32_t cy, uint32_t range, uint32_t direction, u
 int64_t kyrla_ring_edge(int32_t cx, int32_t cy, uint32_t range, uint32_t vertex, uint32_t sense, int32_t *run, size_t run_len);
 
 /* The edges of the ranges at a vertex, one after the other. */
-int64_t kyrla_wedge(int32_t cx, int32_t cy, uint32_t first, uint32_t last, uint32_t vertex, uint32_t sense, int32_t *run, size_t run_len);
+int64_t kyrla_wedge(int32_t cx, int32_t cy, uint32_t first, uint32_t last, uint32_t vertex, uint32_t sense, int32_t *run,
+                    size_t run_len);
 
-/* The corners of the ranges in a direction, one after the other: at each range the half of both edges that is nearest to it. */
+/* The corners of the ranges in a direction, one after the other: at range n the tile in that direction, n/2 tiles, rounded down, along
+ * direction + 2 from it, and as many along direction + 4. */
 int64_t kyrla_corner_wedge(int32_t cx, int32_t cy, uint32_t first, uint32_t last, uint32_t direction, int32_t *run, size_t run_len);
 
 /* The rings of the ranges, one after the other, each from the tile in `direction` on. */
-int64_t kyrla_spiral(int32_t cx, int32_t cy, uint32_t first, uint32_t last, uint32_t direction, uint32_t sense, int32_t *run, size_t run_len);
+int64_t kyrla_spiral(int32_t cx, int32_t cy, uint32_t first, uint32_t last, uint32_t direction, uint32_t sense, int32_t *run,
+                     size_t run_len);
 
 /* Pairs.
  *
@@ -127,8 +130,9 @@ int64_t kyrla_from_doubled(int32_t column, int32_t row, uint32_t mode, int32_t *
  * nobody may enter. Each of these calls is refused by 1, 2 for the map, 5 for a start or end, 6 for a table of another length.
  */
 
-/* The riding range from the start (sx, sy): in `totals`, for each tile, the least sum of effort + 1 over the tiles that a path from the
- * start enters, or KYRLA_NO_WAY where no path keeps within the budget. The start has 0, whatever its effort. Answers 0. */
+/* The riding range from the start (sx, sy): writes to `totals`, for each tile, the least sum of effort + 1 over the tiles that a path
+ * from the start enters, all of them open, or KYRLA_NO_WAY where no such sum is within the budget. The start has 0, whatever its
+ * effort. Answers 0. */
 int64_t kyrla_range(int32_t cx, int32_t cy, uint32_t radius, const uint16_t *efforts, size_t efforts_len, int32_t sx, int32_t sy,
                     uint32_t budget, uint32_t *totals, size_t totals_len);
 
@@ -138,10 +142,11 @@ int64_t kyrla_range(int32_t cx, int32_t cy, uint32_t radius, const uint16_t *eff
 int64_t kyrla_check(int32_t cx, int32_t cy, uint32_t radius, const uint16_t *efforts, size_t efforts_len, int32_t sx, int32_t sy,
                     uint32_t budget, const uint32_t *totals, size_t totals_len, uint32_t *broken, size_t broken_len);
 
-/* The best route from (sx, sy) to (ex, ey) over open tiles: of least effort, then of fewest steps. Writes its tiles to `run`, x then y,
- * both ends included, and answers their number. `ranks` has, for each tile, the least effort of its routes to the end times 65,536 and
- * the fewest steps at that effort, or KYRLA_NO_RANK. Refused also by 8 where no route joins the two and by 7 where the run is too short:
- * then `run` is left as it was, and `ranks` is filled all the same. */
+/* The best route from (sx, sy) to (ex, ey) over open tiles, both ends among them: of least effort, the start's own not counted, then of
+ * fewest steps, then the one whose direction numbers, compared from the front, are smallest. Writes its tiles to `run`, x then y, both
+ * ends included, and answers their number; entries past them are left as they were. Writes to `ranks`, for each tile, the least effort
+ * of its routes to the end times 65,536, and the fewest steps at that effort added to it, or KYRLA_NO_RANK. Refused also by 8 where no
+ * route joins the two and by 7 where the run is too short: then `run` is left as it was, and `ranks` is written all the same. */
 int64_t kyrla_route(int32_t cx, int32_t cy, uint32_t radius, const uint16_t *efforts, size_t efforts_len, int32_t sx, int32_t sy,
                     int32_t ex, int32_t ey, uint64_t *ranks, size_t ranks_len, int32_t *run, size_t run_len);
 
