@@ -9,7 +9,7 @@ use Rattle.storage.specs.declared.Map.{Map}
 use Rattle.field_of_movement.specs.Calls.{Ranges, Checks}
 use Rattle.pathfinding.specs.Calls.{Routes}
 use Rattle.runs.specs.declared.ListAnswer.{ListAnswer}
-use Rattle.firmware.specs.Calls.{minus, mapAt, noted, answerOf, RangeCall, CheckCall, RouteCall}
+use Rattle.firmware.specs.Calls.{minus, mapAt, noted, tilesTold, RangeCall, CheckCall, RouteCall}
 
 -- A map and a tile whose coordinates were read back.
 pub read-map : {x x′ y y′ : ℤ} (radius : ℕ) → x′ ≡ x → y′ ≡ y → mapAt x′ y′ radius ≡ mapAt x y radius
@@ -28,6 +28,6 @@ module _ {map made : Map} (is : made ≡ map) (efforts : List ℕ) {start asked 
       record { number = number; index = index; answers = e; checks = subst₂ (λ (m : Map) (s : Tile). Checks m efforts s budget totals number index) is from told; notes = notes }
 
 pub route-call : {map made : Map} (is : made ≡ map) (efforts : List ℕ) {start asked : Tile} (from : asked ≡ start) {end sought : Tile} (to : sought ≡ end) (before after : List ℕ) (entry exit : List ℤ) (list : ListAnswer) (answer : ℤ)
-    → answer ≡ answerOf list → Routes made efforts asked sought before entry list after exit → RouteCall map efforts start end before after entry exit answer
+    → answer ≡ tilesTold list → Routes made efforts asked sought before entry list after exit → RouteCall map efforts start end before after entry exit answer
 route-call {map} is efforts {start} from {sought} to before after entry exit list answer e told =
     record { list = list; answers = e; routes = subst (λ (t : Tile). Routes map efforts start t before entry list after exit) to (subst₂ (λ (m : Map) (s : Tile). Routes m efforts s sought before entry list after exit) is from told) }

@@ -19,9 +19,9 @@ abbrev pub minus : ℕ → ℤ
 minus n = pos 0 -ℤ pos n
 
 -- The answer of a call that lists: the number of tiles, or minus the number of the refusal.
-abbrev pub answerOf : ListAnswer → ℤ
-answerOf (ListAnswer.Listed tiles) = pos tiles
-answerOf (ListAnswer.Refused number) = minus number
+abbrev pub tilesTold : ListAnswer → ℤ
+tilesTold (ListAnswer.Listed tiles) = pos tiles
+tilesTold (ListAnswer.Refused number) = minus number
 
 -- The map of a centre and a radius.
 abbrev pub mapAt : ℤ → ℤ → ℕ → Map
@@ -48,5 +48,5 @@ pub record CheckCall (map : Map) (efforts : List ℕ) (start : Tile) (budget : �
 -- The route answers its number of tiles or minus its number, `before` becomes `after` in the rank table, and `entry` becomes `exit` in the run.
 pub record RouteCall (map : Map) (efforts : List ℕ) (start end : Tile) (before after : List ℕ) (entry exit : List ℤ) (answer : ℤ) : Type 0 where
   pub list : ListAnswer
-  pub answers : answer ≡ answerOf list
+  pub answers : answer ≡ tilesTold list
   pub routes : Routes map efforts start end before entry list after exit

@@ -1,12 +1,15 @@
-// The calls for a program in C, such as the firmware of a handheld: each takes plain numbers and lent runs, and answers a result, which is 0 where a lent run holds it, or minus
-// the number of a refusal. C passes a run as two arguments, a pointer and a count of entries.
+// The calls for a program in C, such as the firmware of a handheld: each takes plain numbers and lent runs, and answers its result, or minus the number of a refusal. C passes a
+// run as two arguments, a pointer and a count of entries. The calls over tables stand here.
+
+mod lists;
+mod numbers;
+mod pairs;
 
 ghost use mathlib.Core.Path.{_≡_};
 ghost use Rattle.hex.specs.Tiles.{tile};
-ghost use Rattle.firmware.specs.Calls.{minus, mapAt, noted, answerOf, RangeCall, CheckCall, RouteCall};
+ghost use Rattle.firmware.specs.Calls.{minus, mapAt, noted, RangeCall, CheckCall, RouteCall};
 use hex::Tile;
 use hex::refusals;
-use runs::ListAnswer;
 use storage::Map;
 
 // A number as C is told it.
@@ -37,16 +40,6 @@ fn note(broken: &mut [u32], number: u32, index: u32)
         return;
     }
     broken[0] = index;
-}
-
-// The answer of a call that lists, as C is told it.
-fn told_list(answer: ListAnswer) -> i64
-    ensures { λ r. ⌜ r ≡ answerOf answer ⌝ }
-{
-    match answer {
-        ListAnswer::Listed(tiles) => tiles as i64,
-        ListAnswer::Refused(number) => told(number),
-    }
 }
 
 // The riding range, written to `totals` by dense index.
@@ -109,5 +102,5 @@ pub extern "C" fn kyrla_route(
     let map = map_at(cx, cy, radius);
     let start = Tile { x: sx, y: sy };
     let end = Tile { x: ex, y: ey };
-    told_list(pathfinding::route(map, efforts, start, end, ranks, run))
+    lists::tiles_told(pathfinding::route(map, efforts, start, end, ranks, run))
 }

@@ -15,8 +15,8 @@ map-at-requires c κs = search needs
 route-requires : tie.Need-route-requires
 route-requires c κs = search needs
 
-told-list-requires : tie.Need-told-list-requires
-told-list-requires c κs = search needs
+tiles-told-requires : tie.Need-tiles-told-requires
+tiles-told-requires c κs = search needs
 
 same-length : tie.Need-same-length
 same-length c = search needs
@@ -33,10 +33,10 @@ returns c =
     let made = m .map-at .ensures ∙ read-map (a .radius) (toZ-ofZ (s .fits .cx)) (toZ-ofZ (s .fits .cy)) in
     let from = read-tile (toZ-ofZ (s .fits .sx)) (toZ-ofZ (s .fits .sy)) in
     let to = read-tile (toZ-ofZ (s .fits .ex)) (toZ-ofZ (s .fits .ey)) in
-    let answer = read w64 (c .told-list .result) (c .told-list .ok) ∙ c .told-list .ensures in
+    let answer = read w64 (c .tiles-told .result) (c .tiles-told .ok) ∙ c .tiles-told .ensures in
     route-call made (now (a .efforts)) from to (now (a .ranks)) _ (now (a .run)) _ (r .route .result) _ answer (r .route .ensures)
 
 pub kyrla-route-spec : {M : Type 1} → statement M
 kyrla-route-spec =
     tie.close
-    (tie.spec map-at-requires route-requires told-list-requires same-length same-length-2 returns)
+    (tie.spec map-at-requires route-requires tiles-told-requires same-length same-length-2 returns)

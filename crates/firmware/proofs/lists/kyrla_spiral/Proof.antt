@@ -1,0 +1,35 @@
+-- `kyrla_spiral` meets its contract: the spiral is asked for, and its answer told.
+use mathlib.Core.Path.{_∙_}
+use denote.Ref.{now}
+use mir.Syntax.{w64}
+use mir.Facts.{toZ-ofZ}
+use borrow.Author.Needs.{needs}
+use Rattle.whole.proofs.Machine.{read}
+use Rattle.hex.specs.declared.Tile.{Tile}
+use Rattle.rings.specs.Judged.{refusalOf}
+use Rattle.rings.specs.Rings.{spiral}
+use Rattle.firmware.proofs.Calling.{read-tile}
+use Rattle.firmware.proofs.Answering.{list-call}
+use Rattle.firmware.proofs.lists.kyrla_spiral.Statement.{statement}
+use Rattle.firmware.proofs.lists.kyrla_spiral.Tie as tie
+
+spiral-requires : tie.Need-spiral-requires
+spiral-requires c κs = search needs
+
+tiles-told-requires : tie.Need-tiles-told-requires
+tiles-told-requires c κs = search needs
+
+same-length : tie.Need-same-length
+same-length c = search needs
+
+returns : tie.Need-returns
+returns c =
+    let l = c .before .before in
+    let s = l .before .before in
+    let a = s .args in
+    let centre = read-tile (toZ-ofZ (s .fits .cx)) (toZ-ofZ (s .fits .cy)) in
+    let answer = read w64 (c .tiles-told .result) (c .tiles-told .ok) ∙ c .tiles-told .ensures in
+    list-call (λ (t : Tile). refusalOf t (a .first) (a .last) (a .direction) (a .sense)) (λ (t : Tile). spiral t (a .first) (a .last) (a .direction) (a .sense)) centre (now (a .run)) _ _ _ answer (l .spiral .ensures)
+
+pub kyrla-spiral-spec : {M : Type 1} → statement M
+kyrla-spiral-spec = tie.close (tie.spec spiral-requires tiles-told-requires same-length returns)

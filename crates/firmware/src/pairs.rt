@@ -1,0 +1,173 @@
+// The calls for C that write a pair of numbers to the first two entries of a lent run. Each answers 1; refused, it leaves the run as it is.
+
+use crate::map_at;
+use crate::told;
+use conversions::GridAnswer;
+use conversions::GridPair;
+use hex::Tile;
+use hex::TileAnswer;
+use hex::refusals;
+use storage::Index;
+use storage::RowColumn;
+use storage::RowColumnAnswer;
+ghost use mathlib.Core.Path.{_≡_};
+ghost use mathlib.Core.List.{[], _∷_};
+ghost use Rattle.hex.specs.Answers.{origin, tileAnswer};
+ghost use Rattle.hex.specs.Tiles.{tile};
+ghost use Rattle.storage.specs.Hexagonal.{rowColumn, toRowColumn, FromRowColumn};
+ghost use Rattle.storage.specs.Hexmod.{index, FromHexmod};
+ghost use Rattle.conversions.specs.Grid.{pair, noPair, gridAnswer};
+ghost use Rattle.conversions.specs.Offset.{toOffset, FromOffset};
+ghost use Rattle.conversions.specs.Doubled.{toDoubled, FromDoubled};
+ghost use Rattle.firmware.specs.Calls.{mapAt};
+ghost use Rattle.firmware.specs.Lists.{ListCall};
+ghost use Rattle.firmware.specs.Pairs.{ofTile, ofGrid, ofRowColumn, toldBy, PairCall};
+
+// Writes a pair, named as a tile's coordinates are, where the arguments are not refused by `number` and the run has room for it.
+fn written(run: &mut [i32], number: u32, laid: Tile) -> i64
+    ensures { λ r. ⌜ ListCall number (laid ∷ []) (now (run .entry)) (now (run .exit)) r ⌝ }
+{
+    if number != 0 {
+        return told(number);
+    }
+    if run.len() < 2 {
+        return told(refusals::RUN_TOO_SHORT);
+    }
+    runs::put(run, 0, laid);
+    1
+}
+
+// Writes the tile that was found.
+fn tile_written(run: &mut [i32], answer: TileAnswer) -> i64
+    ensures { λ r. ⌜ ListCall (toldBy origin (tileAnswer answer) .number) (toldBy origin (tileAnswer answer) .value ∷ []) (now (run .entry)) (now (run .exit)) r ⌝ }
+{
+    match answer {
+        TileAnswer::Found(tile) => written(run, 0, tile),
+        TileAnswer::Refused(number) => written(run, number, Tile { x: 0, y: 0 }),
+    }
+}
+
+// Writes the pair of a grid that was found, its column first.
+fn grid_written(run: &mut [i32], answer: GridAnswer) -> i64
+    ensures { λ r. ⌜ ListCall (toldBy noPair (gridAnswer answer) .number) (ofGrid (toldBy noPair (gridAnswer answer) .value) ∷ []) (now (run .entry)) (now (run .exit)) r ⌝ }
+{
+    match answer {
+        GridAnswer::Found(pair) => written(
+            run,
+            0,
+            Tile {
+                x: pair.column,
+                y: pair.row,
+            },
+        ),
+        GridAnswer::Refused(number) => written(run, number, Tile { x: 0, y: 0 }),
+    }
+}
+
+// The tile of a map that has an index.
+#[no_mangle]
+pub extern "C" fn kyrla_tile(cx: i32, cy: i32, radius: u32, at: u32, run: &mut [i32]) -> i64
+    ensures { λ r. ⌜ PairCall (FromHexmod (mapAt cx cy radius) (index at)) ofTile (now (run .entry)) (now (run .exit)) r ⌝ }
+{
+    let map = map_at(cx, cy, radius);
+    tile_written(run, storage::from_hexmod_coordinates(map, Index(at)))
+}
+
+// The row and the column of a tile of a map, the row first.
+#[no_mangle]
+pub extern "C" fn kyrla_row_column(
+    cx: i32,
+    cy: i32,
+    radius: u32,
+    x: i32,
+    y: i32,
+    run: &mut [i32],
+) -> i64
+    ensures { λ r. ⌜ PairCall (λ told. told ≡ toRowColumn (mapAt cx cy radius) (tile x y)) ofRowColumn (now (run .entry)) (now (run .exit)) r ⌝ }
+{
+    let map = map_at(cx, cy, radius);
+    match storage::to_row_column(map, Tile { x, y }) {
+        RowColumnAnswer::Found(at) => written(
+            run,
+            0,
+            Tile {
+                x: at.row as i32,
+                y: at.column as i32,
+            },
+        ),
+        RowColumnAnswer::Refused(number) => written(run, number, Tile { x: 0, y: 0 }),
+    }
+}
+
+// The tile of a map that has a row and a column.
+#[no_mangle]
+pub extern "C" fn kyrla_tile_at(
+    cx: i32,
+    cy: i32,
+    radius: u32,
+    row: u32,
+    column: u32,
+    run: &mut [i32],
+) -> i64
+    ensures { λ r. ⌜ PairCall (FromRowColumn (mapAt cx cy radius) (rowColumn row column)) ofTile (now (run .entry)) (now (run .exit)) r ⌝ }
+{
+    let map = map_at(cx, cy, radius);
+    tile_written(
+        run,
+        storage::from_row_column(map, RowColumn { row, column }),
+    )
+}
+
+// The offset coordinates of a tile, the column first.
+#[no_mangle]
+pub extern "C" fn kyrla_to_offset(
+    x: i32,
+    y: i32,
+    mode: u32,
+    orientation: u32,
+    run: &mut [i32],
+) -> i64
+    ensures { λ r. ⌜ PairCall (λ told. told ≡ toOffset (tile x y) mode orientation) ofGrid (now (run .entry)) (now (run .exit)) r ⌝ }
+{
+    let tile = Tile { x, y };
+    grid_written(
+        run,
+        conversions::to_offset_coordinates(tile, mode, orientation),
+    )
+}
+
+// The tile that has a pair of offset coordinates.
+#[no_mangle]
+pub extern "C" fn kyrla_from_offset(
+    column: i32,
+    row: i32,
+    mode: u32,
+    orientation: u32,
+    run: &mut [i32],
+) -> i64
+    ensures { λ r. ⌜ PairCall (FromOffset (pair column row) mode orientation) ofTile (now (run .entry)) (now (run .exit)) r ⌝ }
+{
+    let pair = GridPair { column, row };
+    tile_written(
+        run,
+        conversions::from_offset_coordinates(pair, mode, orientation),
+    )
+}
+
+// The doubled coordinates of a tile, the column first.
+#[no_mangle]
+pub extern "C" fn kyrla_to_doubled(x: i32, y: i32, mode: u32, run: &mut [i32]) -> i64
+    ensures { λ r. ⌜ PairCall (λ told. told ≡ toDoubled (tile x y) mode) ofGrid (now (run .entry)) (now (run .exit)) r ⌝ }
+{
+    let tile = Tile { x, y };
+    grid_written(run, conversions::to_doubled_coordinates(tile, mode))
+}
+
+// The tile that has a pair of doubled coordinates.
+#[no_mangle]
+pub extern "C" fn kyrla_from_doubled(column: i32, row: i32, mode: u32, run: &mut [i32]) -> i64
+    ensures { λ r. ⌜ PairCall (FromDoubled (pair column row) mode) ofTile (now (run .entry)) (now (run .exit)) r ⌝ }
+{
+    let pair = GridPair { column, row };
+    tile_written(run, conversions::from_doubled_coordinates(pair, mode))
+}
