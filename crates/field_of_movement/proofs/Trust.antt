@@ -1,6 +1,6 @@
 -- Why a table that the check accepts may be signed: it answers 0 exactly for the table of least sums over all paths, whoever made the table; and it answers 0 for the table that the riding
 -- range writes, for every effort table and every budget.
-use mathlib.Core.Path.{_≡_, refl, sym, ap, _∙_}
+use mathlib.Core.Path.{_≡_, sym, ap, _∙_}
 use mathlib.Core.Logic.{_↔_}
 use mathlib.Core.List.{List}
 use Prim.Native.Nat.{ℕ, _≤_}

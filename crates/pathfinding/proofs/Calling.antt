@@ -5,14 +5,13 @@ use mathlib.Core.List.{List, []}
 use Prim.Native.Nat.{ℕ, zero, suc, _≤_, _<_}
 use native.Mathlib.Omega.{arith}
 use lib.IntN.{ℤ}
-use lib.ListN.{length, getD}
+use lib.ListN.{length}
 use Rattle.paths.specs.Tables.{at}
-use Rattle.routes.specs.Ranks.{noRank, Ranks}
+use Rattle.routes.specs.Ranks.{Ranks}
 use Rattle.hex.specs.Answers.{Told, accepted, refused, provided}
 use Rattle.hex.specs.Limits.{radiusLimit}
 use Rattle.hex.specs.Refusals.{notOfMap}
 use Rattle.hex.specs.declared.Tile.{Tile}
-use Rattle.runs.specs.Runs.{Lists}
 use Rattle.runs.specs.declared.ListAnswer.{ListAnswer}
 use Rattle.runs.proofs.Ending.{refused-for, lists-same}
 use Rattle.storage.specs.Hexmod.{index, indexIn, indexOf, toHexmod}

@@ -12,7 +12,7 @@ use Rattle.routes.specs.Descents.{Taken, Descent}
 use Rattle.routes.specs.Grounds.{Ground, OpenTile}
 use Rattle.routes.specs.Ranks.{multiplier, noRank, RankOf, near, far, Ranks}
 use Rattle.routes.specs.Turned.{turned}
-use Rattle.routes.proofs.Descending.{taken, Falls, taken-falls, descent-over, descent-next}
+use Rattle.routes.proofs.Descending.{taken, taken-falls, descent-over, descent-next}
 use Rattle.routes.proofs.DownIsBest.{down-best}
 use Rattle.routes.proofs.RankTables.{ranks-sums}
 use Rattle.routes.proofs.Turning.{route-start, route-end}

@@ -7,7 +7,6 @@ use lib.Dec.{ltb}
 use lib.IntN.{ℤ, pos, negsuc}
 use lib.ListN.{set}
 use Rattle.hex.specs.declared.TileAnswer.{TileAnswer}
-use Rattle.questions.specs.declared.answer.Answer.{Answer}
 use Rattle.questions.specs.declared.answer.Asked.{Asked}
 use Rattle.questions.specs.declared.answer.Laid.{Laid}
 

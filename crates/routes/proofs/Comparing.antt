@@ -2,13 +2,12 @@
 use mathlib.Core.Path.{_≡_, refl, sym, ap, _∙_}
 use mathlib.Core.Logic.{_⊎_, inl, inr}
 use mathlib.Core.List.{List, [], _∷_}
-use Prim.Native.Nat.{ℕ, _≤_, _<_, _+_, _*_}
-use native.Mathlib.Decide.{decLt}
+use Prim.Native.Nat.{ℕ, _≤_}
 use native.Mathlib.Omega.{arith}
 use lib.ListN.{length}
-use Rattle.routes.specs.Grounds.{Ground, OpenTile}
+use Rattle.routes.specs.Grounds.{Ground}
 use Rattle.routes.specs.Routes.{Route, there, first, Smaller, Better, BestRoute}
-use Rattle.routes.specs.Ranks.{multiplier, LeastCost, FewestSteps, RankOf, near}
+use Rattle.routes.specs.Ranks.{LeastCost, FewestSteps}
 
 smaller-once : (ds es : List ℕ) → Smaller ds es → Smaller es ds → ⊥
 smaller-once [] es a b = a
@@ -64,15 +63,3 @@ module _ {G : Ground} {s e : ℕ} {ds : List ℕ} {v : ℕ} (B : BestRoute G s e
       go es (inr (inl h)) = absurd (omega arith)
       go es (inr (inr (z, inl h))) = omega arith
       go es (inr (inr (z, inr (h, k)))) = omega arith
-
-  pub best-rank : RankOf G e s (v * multiplier + length ds)
-  best-rank = near best-least best-fewest refl
-
--- From an open tile to itself the best route is that tile alone.
-pub home-best : {G : Ground} {e : ℕ} → OpenTile G e → BestRoute G e e [] 0
-home-best {G} {e} o = record { route = there o; best = λ es x r. go es x r (decLt 0 x) }
-  where
-    go : (es : List ℕ) (x : ℕ) → Route G e e es x → Dec (0 < x) → ([] ≡ es) ⊎ Better 0 [] x es
-    go [] x r h = inl refl
-    go (d ∷ es) x r (yes h) = inr (inl h)
-    go (d ∷ es) x r (no h) = inr (inr (omega arith, inl (omega arith)))

@@ -1,4 +1,4 @@
--- The tiles of a route: one more than its steps, the first is the start and the last the end, and each is open.
+-- The tiles of a route: one more than its steps, the last is the end, and each is open.
 use mathlib.Core.Path.{_≡_, refl, ap}
 use mathlib.Core.List.{List, [], _∷_}
 use Prim.Native.Nat.{ℕ, zero, suc, _≤_}
@@ -10,10 +10,6 @@ use Rattle.routes.specs.Routes.{Route, there, first, tilesOf}
 pub tiles-count : (G : Ground) (u : ℕ) (ds : List ℕ) → length (tilesOf G u ds) ≡ suc (length ds)
 tiles-count G u [] = refl
 tiles-count G u (d ∷ ds) = ap suc (tiles-count G (G .next u d) ds)
-
-pub tiles-start : (G : Ground) (u : ℕ) (ds : List ℕ) → getD (tilesOf G u ds) 0 0 ≡ u
-tiles-start G u [] = refl
-tiles-start G u (d ∷ ds) = refl
 
 pub tiles-end : {G : Ground} {e u v : ℕ} {ds : List ℕ} → Route G e u ds v → getD (tilesOf G u ds) (length ds) 0 ≡ e
 tiles-end (there o) = refl

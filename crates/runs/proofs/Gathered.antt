@@ -1,6 +1,6 @@
 -- Laws of lists made piece by piece: how they grow, when two are equal, what stands in them, and how long they are.
 use mathlib.Core.Path.{_≡_, refl, ap₂, _∙_}
-use mathlib.Core.Logic.{_↔_, _⊎_, inl, inr}
+use mathlib.Core.Logic.{_⊎_, inl, inr}
 use mathlib.Core.List.{List, [], _++_, List·Memᴰ, List·Memᴰ·not-nil, List·Memᴰ·append-cases, Memᴰ·append-left, Memᴰ·append-right}
 use Prim.Native.Nat.{ℕ, zero, suc, _+_, _≤_, _<_}
 use native.Mathlib.Numerals.{add-one}
@@ -68,9 +68,6 @@ module _ {A : Type 0} (f : ℕ → List A) where
       go : (k < n → In x (f k) → In x (gather f n)) → Dec (k < n) → In x (gather f n ++ f n)
       go before (yes h) = Memᴰ·append-left (f n) (before h p)
       go before (no h) = let e : k ≡ n = omega arith in Memᴰ·append-right (gather f n) (rw e at p)
-
-  pub in-gather : (n : ℕ) (x : A) → In x (gather f n) ↔ Among x f n
-  in-gather n x = (among n x, λ a. in-piece n (a .piece) x (a .below) (a .inside))
 
 -- A sum, and one number more.
 pub total-none : (g : ℕ → ℕ) → total g 0 ≡ 0

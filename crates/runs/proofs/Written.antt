@@ -6,18 +6,13 @@ use native.Mathlib.Nat.{add-zero, add-assoc}
 use native.Mathlib.Numerals.{add-one}
 use native.Mathlib.Omega.{arith}
 use lib.IntN.{ℤ}
-use lib.ListN.{length, take, drop, set, length-append, length-drop, take-append-drop}
+use lib.ListN.{length, take, drop, set, length-append, take-append-drop}
 use lib.Seq.{length-take-le, take-at, drop-append-add, drop-drop, sets-eq}
 use Rattle.hex.specs.declared.Tile.{Tile}
 use Rattle.runs.specs.Runs.{entries, written}
 
 pub written-none : (run : List ℤ) (at : ℕ) → written run at [] ≡ run
 written-none run at = rw (add-zero, append-nil) (take-append-drop at run)
-
-pub length-written : (run : List ℤ) (at : ℕ) (new : List ℤ) → at + length new ≤ length run → length (written run at new) ≡ length run
-length-written run at new h =
-    let p : length (take at run) ≡ at = length-take-le at run (omega arith) in
-    simp (length-append, length-drop) (omega arith)
 
 -- t behind l, which was written from `at` on.
 pub written-more : (run : List ℤ) (at j : ℕ) (l t : List ℤ) → at + length l ≡ j → j ≤ length run → written (written run at l) j t ≡ written run at (l ++ t)

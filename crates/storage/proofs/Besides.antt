@@ -26,7 +26,6 @@ use Rattle.storage.specs.Neighbors.{noIndex}
 use Rattle.storage.specs.declared.Map.{Map}
 use Rattle.storage.proofs.Back.{index-below}
 use Rattle.storage.proofs.Maps.{fine, area-small, disc-of}
-use Rattle.storage.proofs.Strips.{Disc}
 
 -- (y + v - c) + s (x + u - b) is i + (v + s u) and whole turns, if (y - c) + s (x - b) is i and whole turns.
 moved : (a s i : ℕ) (x y q u v b c : ℤ) → pos a *ℤ q +ℤ pos i ≡ (y -ℤ c) +ℤ pos s *ℤ (x -ℤ b)

@@ -1,7 +1,7 @@
 -- Neighbours for those who reckon with indices alone: `nearIn` is what is told of a neighbour, two tiles of a map are at distance 1 exactly if one is near the other, and the opposite
 -- direction leads back.
 use mathlib.Core.Path.{_≡_, refl, sym, ap, _∙_, subst}
-use mathlib.Core.Bool.{Bool, true, false}
+use mathlib.Core.Bool.{true}
 use mathlib.Core.List.{List}
 use Prim.Native.Nat.{ℕ, _+_, _%_, _<_, _≤_}
 use native.Mathlib.Omega.{arith}
@@ -10,19 +10,19 @@ use Rattle.hex.specs.Answers.{Told, accepted, refusedTile}
 use Rattle.hex.specs.Limits.{radiusLimit}
 use Rattle.hex.specs.Tiles.{neighborOf, distanceOf}
 use Rattle.hex.specs.declared.Tile.{Tile}
-use Rattle.hex.proofs.Beside.{Leads, one-apart, six-neighbors}
+use Rattle.hex.proofs.Beside.{one-apart, six-neighbors}
 use Rattle.hex.proofs.Metric.{neighbor-at-one}
 use Rattle.hex.proofs.Tells.{One}
 use Rattle.hex.proofs.Turning.{opposite-leads-back}
 use Rattle.storage.specs.Hexmod.{index, indexIn, indexOf, toHexmod, FromHexmod}
 use Rattle.storage.specs.Leaves.{tileAtIndex, besideIn, nearIn}
 use Rattle.storage.specs.Maps.{mapRefusal, ofMap, areaOf}
-use Rattle.storage.specs.Neighbors.{noIndex, entryOf, SixNeighbors}
+use Rattle.storage.specs.Neighbors.{SixNeighbors}
 use Rattle.storage.specs.declared.Map.{Map}
 use Rattle.storage.proofs.Back.{index-below, one-index, tile-of-map, tile-has-index, the-tile-of}
-use Rattle.storage.proofs.Besides.{beside-off, beside-on, some-on}
+use Rattle.storage.proofs.Besides.{beside-on, some-on}
 use Rattle.storage.proofs.Ending.{OneHas, from-fine}
-use Rattle.storage.proofs.Maps.{fine, area-small}
+use Rattle.storage.proofs.Maps.{area-small}
 use Rattle.storage.proofs.Neighbors.{one-told, neighbor-found, entry-of-beside}
 
 -- A tile is found back from its index.

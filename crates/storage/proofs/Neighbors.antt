@@ -13,11 +13,11 @@ use Rattle.hex.specs.Answers.{Told, accepted, refused, refusedTile}
 use Rattle.hex.specs.Refusals.{notOfMap}
 use Rattle.hex.specs.Tiles.{neighborOf, distanceOf}
 use Rattle.hex.specs.declared.Tile.{Tile}
-use Rattle.hex.proofs.Beside.{Leads, one-apart, six-neighbors}
+use Rattle.hex.proofs.Beside.{one-apart, six-neighbors}
 use Rattle.hex.proofs.Metric.{neighbor-at-one}
 use Rattle.hex.proofs.Tells.{One}
 use Rattle.hex.proofs.Turning.{opposite-leads-back}
-use Rattle.storage.specs.Hexmod.{index, indexIn, indexOf, toHexmod, FromHexmod}
+use Rattle.storage.specs.Hexmod.{index, indexOf, toHexmod, FromHexmod}
 use Rattle.storage.specs.Leaves.{besideIn, tileAtIndex}
 use Rattle.storage.specs.Maps.{mapRefusal, ofMap, areaOf}
 use Rattle.storage.specs.Neighbors.{Neighbor, noIndex, entryOf, SixNeighbors}

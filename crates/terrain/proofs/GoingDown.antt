@@ -25,7 +25,7 @@ use Rattle.storage.proofs.Near.{tile-of-index, near-on}
 use Rattle.terrain.specs.GroundOfMap.{groundOf}
 use Rattle.terrain.specs.TilePaths.{entryAt, Path}
 use Rattle.terrain.specs.TileRoutes.{Directions, BestTiles, RankTable}
-use Rattle.terrain.proofs.BestRoutes.{in-tiles, best-in-tiles, one-list}
+use Rattle.terrain.proofs.BestRoutes.{in-tiles, best-in-tiles}
 use Rattle.terrain.proofs.RanksOfMap.{ranks-over}
 use Rattle.terrain.proofs.RoutesOfMap.{ground-fits, TilesOf}
 use Rattle.terrain.proofs.Totals.{Efforts}
@@ -82,9 +82,3 @@ module _ (map : Map) (small : map .radius ≤ radiusLimit) (efforts : List ℕ) 
 
     pub down-count : length (tilesBy start ds) ≡ entryAt map ranks start % multiplier + 1
     down-count = omega (arith, tiles-count start ds, down .steps)
-
-  -- So the rank tells how many tiles the best route has.
-  pub best-count : (tiles : List Tile) → BestTiles map efforts start end tiles → length tiles ≡ entryAt map ranks start % multiplier + 1
-  best-count tiles B =
-      let d = goes-down in
-      ap length (one-list map small efforts short end on-end start on tiles (tilesBy start (d .0)) B (down-tiles (d .0) (d .1))) ∙ down-count (d .0) (d .1)

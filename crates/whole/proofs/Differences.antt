@@ -7,7 +7,7 @@ use mathlib.Core.Bool.{Bool, true, false, not, cond}
 use mathlib.Core.Logic.{_↔_}
 use Prim.Native.Nat.{ℕ, zero, suc, _+_, _*_, _-_, _^_, _<_, _≤_}
 use native.Mathlib.Omega.{arith}
-use lib.Dec.{T, ltb, leb, ltb→lt, nltb→le, leb→le, le→leb, lt→ltb}
+use lib.Dec.{T, ltb, ltb→lt, nltb→le, leb→le, le→leb, lt→ltb}
 use lib.IntN.{ℤ, pos, negsuc, negℤ, natAbs, subℕ, _+ℤ_, _*ℤ_}
 use lib.Signed.{nonNeg, ltZ, leZ, _≤ℤ_, _<ℤ_}
 use mir.Syntax.{Width}

@@ -3,5 +3,4 @@ pub mod Differences
 pub mod Euclid
 pub mod Kit
 pub mod Machine
-pub mod Products
 pub mod Unique

@@ -1,5 +1,5 @@
 -- `all_neighbors` meets its contract: none where the way back refuses, else what stands beside the tile that it tells.
-use mathlib.Core.Path.{_≡_, sym, ap, _∙_, subst}
+use mathlib.Core.Path.{_≡_, sym, ap, subst}
 use borrow.Author.Needs.{needs}
 use Rattle.hex.specs.Answers.{TileTells}
 use Rattle.hex.specs.declared.TileAnswer.{TileAnswer}

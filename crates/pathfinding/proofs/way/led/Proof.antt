@@ -1,10 +1,10 @@
 -- `led` meets its contract: no rank and no route, a run too short for the way, or the way in the run.
-use mathlib.Core.Path.{_≡_, refl, sym, _∙_}
+use mathlib.Core.Path.{refl, sym}
 use mathlib.Core.List.{List, []}
 use Prim.Native.Nat.{ℕ, _<_}
 use denote.Ref.{now}
 use native.Mathlib.Omega.{arith}
-use lib.ListN.{length, getD}
+use lib.ListN.{getD}
 use borrow.Author.Needs.{needs}
 use Rattle.paths.specs.Tables.{at}
 use Rattle.routes.specs.Descents.{Descent}

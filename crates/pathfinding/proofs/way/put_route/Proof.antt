@@ -1,5 +1,5 @@
 -- `put_route` meets its contract: before each turn, what is written and what is left make up the way, and with each turn the rank falls.
-use mathlib.Core.Path.{_≡_, refl, sym, ap, _∙_}
+use mathlib.Core.Path.{_≡_, refl, _∙_}
 use mathlib.Core.List.{List}
 use Prim.Native.Nat.{ℕ, _*_, _≤_, _<_}
 use denote.Ref.{now}

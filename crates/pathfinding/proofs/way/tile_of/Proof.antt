@@ -1,5 +1,5 @@
 -- `tile_of` meets its contract: the way back finds the one tile that has the index.
-use mathlib.Core.Path.{_≡_, refl, sym, ap, _∙_, subst}
+use mathlib.Core.Path.{_≡_, subst}
 use native.Mathlib.Omega.{arith}
 use borrow.Author.Needs.{needs}
 use Rattle.hex.specs.Answers.{TileTells}

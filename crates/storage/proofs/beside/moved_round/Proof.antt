@@ -10,8 +10,7 @@ use mir.Syntax.{w32}
 use mir.Val.{SFits, Fits, toZ, ofZ}
 use mir.Facts.{toZ-ofZ, toZ-pos}
 use borrow.Author.Needs.{needs}
-use Rattle.whole.specs.Euclid.{remainder}
-use Rattle.whole.proofs.Differences.{by1, linear, d-mul}
+use Rattle.whole.proofs.Differences.{by1, d-mul}
 use Rattle.whole.proofs.Euclid.{euclid-only}
 use Rattle.whole.proofs.Kit.{dif, dif-b}
 use Rattle.hex.specs.Limits.{radiusLimit}

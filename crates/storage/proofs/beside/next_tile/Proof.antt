@@ -1,6 +1,6 @@
 -- `next_tile` meets its contract: one step from such a tile stays within 32 bits.
 use mathlib.Core.Path.{_≡_, ap, ap₂, _∙_}
-use Prim.Native.Nat.{ℕ, _+_, _≤_}
+use Prim.Native.Nat.{_≤_}
 use native.Mathlib.Omega.{arith}
 use lib.IntN.{ℤ, natAbs, _+ℤ_}
 use mir.Syntax.{w32, w64}
@@ -10,7 +10,7 @@ use borrow.Author.Needs.{needs}
 use Rattle.whole.proofs.Differences.{by2}
 use Rattle.whole.proofs.Kit.{dif-b}
 use Rattle.hex.specs.Directions.{stepOf}
-use Rattle.hex.specs.Tiles.{neighborOf, place, tile}
+use Rattle.hex.specs.Tiles.{neighborOf, tile}
 use Rattle.hex.specs.declared.Place.{Place}
 use Rattle.hex.proofs.Metric.{step-small}
 use Rattle.storage.specs.Leaves.{farthest}

@@ -1,5 +1,5 @@
 -- `stays` meets its contract: of a tile that does not lie on the rim nothing need be tested.
-use mathlib.Core.Path.{sym, ap, _∙_}
+use mathlib.Core.Path.{ap, _∙_}
 use borrow.Author.Needs.{needs}
 use Rattle.storage.specs.Maps.{ofMap}
 use Rattle.storage.proofs.Besides.{inside-stays}

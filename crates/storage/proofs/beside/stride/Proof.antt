@@ -11,7 +11,6 @@ use borrow.Author.Needs.{needs}
 use Rattle.whole.proofs.Differences.{by1, by2, d-mul}
 use Rattle.whole.proofs.Kit.{dif-b}
 use Rattle.whole.proofs.Machine.{small-fits}
-use Rattle.hex.specs.Directions.{stepOf}
 use Rattle.hex.specs.declared.Step.{Step}
 use Rattle.hex.proofs.Metric.{step-small}
 use Rattle.storage.specs.Leaves.{strideOf}
