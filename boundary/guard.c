@@ -9,10 +9,9 @@
 #include <sys/mman.h>
 #include <unistd.h>
 
-static size_t page_size(void)
-{
-    return (size_t)sysconf(_SC_PAGESIZE);
-}
+/* So many bytes trap on either side: from a buffer's first entry on, whatever 32-bit number a call might take for an index, signed or
+ * not, of entries of up to 8 bytes. They are addresses alone and take no memory. */
+#define GUARD ((size_t)1 << 35)
 
 static void stop(const char *what)
 {
@@ -41,13 +40,13 @@ static void make_noise(unsigned char *noise, size_t size)
 
 void pen_make(struct pen *pen, size_t bytes)
 {
-    size_t page = page_size();
+    size_t page = (size_t)sysconf(_SC_PAGESIZE);
     pen->size = (bytes + page - 1) / page * page;
-    unsigned char *all = mmap(NULL, pen->size + 2 * page, PROT_NONE, MAP_PRIVATE | MAP_ANONYMOUS, -1, 0);
+    unsigned char *all = mmap(NULL, pen->size + 2 * GUARD, PROT_NONE, MAP_PRIVATE | MAP_ANONYMOUS | MAP_NORESERVE, -1, 0);
     if (all == MAP_FAILED) {
         stop("mmap");
     }
-    pen->body = all + page;
+    pen->body = all + GUARD;
     pen_open(pen);
     pen->noise = malloc(pen->size);
     pen->was = malloc(pen->size);
@@ -59,7 +58,7 @@ void pen_make(struct pen *pen, size_t bytes)
 
 void pen_free(struct pen *pen)
 {
-    munmap(pen->body - page_size(), pen->size + 2 * page_size());
+    munmap(pen->body - GUARD, pen->size + 2 * GUARD);
     free(pen->noise);
     free(pen->was);
 }
@@ -69,13 +68,13 @@ void pen_open(struct pen *pen)
     protect(pen, PROT_READ | PROT_WRITE);
 }
 
-/* An empty buffer in front lies in the middle of its page, so that a step to either side of it traps too. */
+/* An empty buffer in front lies in the middle of what traps, so that a step to either side of it traps too. */
 static unsigned char *place(const struct pen *pen, enum side side, size_t bytes)
 {
     if (side == BEHIND) {
         return pen->body + pen->size - bytes;
     }
-    return bytes == 0 ? pen->body - page_size() / 2 : pen->body;
+    return bytes == 0 ? pen->body - GUARD / 2 : pen->body;
 }
 
 struct lent pen_lend(struct pen *pen, enum side side, size_t entries, size_t width)

@@ -1,13 +1,13 @@
-/* Guarded memory: buffers to lend to a call, each flush against a page that may not be touched.
+/* Guarded memory: buffers to lend to a call, each flush against pages that may not be touched.
  *
- * The archive is not built with a sanitizer, so none sees what it reads or writes. A page without access does: one entry too many traps.
+ * The archive is not built with a sanitizer, so none sees what it reads or writes. Pages without access do: one entry too many traps.
  */
 #ifndef BOUNDARY_GUARD_H
 #define BOUNDARY_GUARD_H
 
 #include <stddef.h>
 
-/* A pen is memory between two pages that trap. What a call was not lent of it holds noise, which must be there afterwards. */
+/* A pen is memory between pages that trap. What a call was not lent of it holds noise, which must be there afterwards. */
 struct pen {
     unsigned char *body;
     size_t size;
@@ -15,10 +15,10 @@ struct pen {
     unsigned char *was;
 };
 
-/* The side on which a buffer touches a page that traps. */
+/* The side on which a buffer touches the pages that trap. */
 enum side { BEHIND, IN_FRONT, SIDES };
 
-/* A buffer of a pen. `at` is what the call gets; where there are no entries it points into the page that traps. */
+/* A buffer of a pen. `at` is what the call gets; where there are no entries it points into those pages. */
 struct lent {
     struct pen *pen;
     void *at;

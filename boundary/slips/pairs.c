@@ -13,6 +13,9 @@ int64_t __real_kyrla_from_doubled(int32_t column, int32_t row, uint32_t mode, in
 
 int64_t __wrap_kyrla_tile(int32_t cx, int32_t cy, uint32_t radius, uint32_t index, int32_t *run, size_t run_len)
 {
+    if (made == TILE_READS_FAR) {
+        (void)((volatile int32_t *)run)[UINT32_MAX];
+    }
     int64_t answer = __real_kyrla_tile(cx, cy, radius, index, run, run_len + (made == TILE_RUN));
     if (made == TILE_WRITES_ON && answer == 1 && run_len > 2) {
         run[2] = 0;

@@ -28,6 +28,7 @@
     SLIP(RING_READS_BEFORE, "kyrla_ring reads the entry before its run", ask_lists) \
     SLIP(RING_WRITES_BEFORE, "kyrla_ring writes the entry before its run", ask_lists) \
     SLIP(TILE_WRITES_ON, "kyrla_tile writes a third entry where there is one", ask_pairs) \
+    SLIP(TILE_READS_FAR, "kyrla_tile reads its run at the index 4294967295", ask_pairs) \
     SLIP(RANGE_READS_PAST, "kyrla_range reads the entry behind its efforts", ask_ranges) \
     SLIP(RANGE_WRITES_TABLE, "kyrla_range writes an effort, the same as it was", ask_ranges) \
     SLIP(RANGE_REFUSED_WRITES, "kyrla_range clears a total though it refuses", ask_ranges) \
