@@ -5,11 +5,6 @@
 int main(void)
 {
     tally_watch();
-    ask_numbers();
-    ask_lists();
-    ask_pairs();
-    ask_ranges();
-    ask_checks();
-    ask_routes();
+    ask_all();
     return tally_end() ? 0 : 1;
 }

@@ -9,4 +9,7 @@ void ask_ranges(void);
 void ask_checks(void);
 void ask_routes(void);
 
+/* All of them, in this order. */
+void ask_all(void);
+
 #endif

@@ -33,7 +33,7 @@ static void trapped(int number)
 {
     (void)number;
     show("touched what it may not");
-    printf("%ld calls, the last one trapped\n", all_calls + calls + 1);
+    printf("trapped at call %ld\n", all_calls + calls + 1);
     fflush(stdout);
     _exit(1);
 }

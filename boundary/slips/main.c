@@ -1,4 +1,5 @@
-/* Makes one slip, by number, and runs the part of the program that must notice it. Without a number it prints how many there are. */
+/* Makes one slip, by number, and runs the part of the program that must notice it; 0 makes none and runs all parts. Without a number it
+ * prints how many slips there are. */
 #include <stdio.h>
 #include <stdlib.h>
 
@@ -14,7 +15,7 @@ struct row {
 };
 
 #define SLIP_ROW(name, text, part) {text, part},
-static const struct row ROWS[] = {{"no slip", ask_numbers}, SLIPS(SLIP_ROW)};
+static const struct row ROWS[] = {{"no slip", ask_all}, SLIPS(SLIP_ROW)};
 #undef SLIP_ROW
 
 int main(int count, char **words)
@@ -24,7 +25,7 @@ int main(int count, char **words)
         return 0;
     }
     long number = strtol(words[1], NULL, 10);
-    if (number < 1 || number >= SLIPS_END) {
+    if (number < 0 || number >= SLIPS_END) {
         return 2;
     }
     made = (enum slip)number;
