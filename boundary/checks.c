@@ -8,7 +8,7 @@
 #include "sheet.h"
 #include "tally.h"
 
-enum { SPARE = 3, SMALL_RADIUS = 3, SMALL_AREA = 37, LONGEST_BROKEN = 4 };
+enum { LONGEST_BROKEN = 1 + SPARE };
 
 static struct sheet sheet;
 static uint16_t efforts[LARGEST_AREA];
@@ -133,7 +133,7 @@ static void ask_extremes(uint32_t budget)
 {
     static const int32_t ENDS[] = {INT32_MIN, -LIMIT - 1, 0, LIMIT, INT32_MAX};
     sheet_totals(&sheet, efforts, &(struct ride){0, 0, sheet.radius, 0, 0, 0, 0, budget}, totals);
-    EACH(int32_t, cx, ENDS) EACH(int32_t, cy, ENDS) EACH(uint32_t, radius, RADII) {
+    EACH(int32_t, cx, COORDINATES) EACH(int32_t, cy, COORDINATES) EACH(uint32_t, radius, RADII) {
         EACH(int32_t, sx, ENDS) EACH(int32_t, sy, ENDS) {
             ask_table(&(struct ride){*cx, *cy, *radius, *sx, *sy, 0, 0, budget});
         }
@@ -149,6 +149,8 @@ static void ask_largest(void)
         struct ride ride = {LIMIT, LIMIT, LARGEST_RADIUS, LIMIT - 20, LIMIT + 60, 0, 0, UINT32_MAX};
         sheet_totals(&sheet, efforts, &ride, totals);
         ask_table(&ride);
+        ask(&ride, (struct lengths){sheet.area - 1, sheet.area, 1}, -1, BEHIND);
+        ask(&ride, (struct lengths){sheet.area, sheet.area - 1, 1}, -1, BEHIND);
         totals[LARGEST_AREA - 1] ^= 1;
         ask_table(&ride);
     }

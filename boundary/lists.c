@@ -10,7 +10,7 @@
 #include "tally.h"
 #include "walks.h"
 
-enum { SPARE = 3, SMALL_RANGE = 6, SMALL_ENTRIES = 2 * (3 * SMALL_RANGE * (SMALL_RANGE + 1) + 1) + SPARE };
+enum { SMALL_RANGE = 6, SMALL_ENTRIES = 2 * (3 * SMALL_RANGE * (SMALL_RANGE + 1) + 1) + SPARE };
 
 /* A call that lists: its figure, whether it takes one range, and whether it takes a sense. */
 struct lister {

@@ -7,7 +7,7 @@
 #include "parts.h"
 #include "tally.h"
 
-enum { LONGEST_RUN = 5 };
+enum { LONGEST_RUN = 2 + SPARE };
 
 /* A call that answers a pair, and what it should answer. */
 struct pairer {

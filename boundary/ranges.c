@@ -10,8 +10,6 @@
 #include "sheet.h"
 #include "tally.h"
 
-enum { SPARE = 3, SMALL_RADIUS = 3, SMALL_AREA = 37 };
-
 static struct sheet sheet;
 static uint16_t efforts[LARGEST_AREA];
 static uint32_t totals[LARGEST_AREA];

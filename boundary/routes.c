@@ -10,8 +10,6 @@
 #include "sheet.h"
 #include "tally.h"
 
-enum { SPARE = 3, SMALL_RADIUS = 3, SMALL_AREA = 37 };
-
 static struct sheet sheet;
 static uint16_t efforts[LARGEST_AREA];
 static uint64_t ranks[LARGEST_AREA];
@@ -158,7 +156,6 @@ static void ask_largest(void)
 
 void ask_routes(void)
 {
-    static const int32_t CENTRES[] = {INT32_MIN, -LIMIT - 1, -LIMIT, 0, LIMIT, INT32_MAX};
     tally_begin("kyrla_route");
     make_pens(SMALL_AREA + SPARE);
     for (uint32_t radius = 0; radius <= SMALL_RADIUS; radius++) {
@@ -170,7 +167,7 @@ void ask_routes(void)
     }
     sheet_make(&sheet, 1);
     sheet_efforts(&sheet, 1, efforts);
-    EACH(int32_t, cx, CENTRES) EACH(int32_t, cy, CENTRES) EACH(uint32_t, radius, RADII) {
+    EACH(int32_t, cx, COORDINATES) EACH(int32_t, cy, COORDINATES) EACH(uint32_t, radius, RADII) {
         ask_extremes(*cx, *cy, *radius);
     }
     free_pens();
