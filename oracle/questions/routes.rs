@@ -30,12 +30,12 @@ const STEPS: [Hex; 6] = [
 type Rank = Option<(u64, u64)>;
 
 /// A map with its efforts by index, and the two ends of a route.
-struct Journey {
-    centre: Hex,
-    radius: u32,
-    start: Hex,
-    end: Hex,
-    efforts: Vec<u16>,
+pub struct Journey {
+    pub centre: Hex,
+    pub radius: u32,
+    pub start: Hex,
+    pub end: Hex,
+    pub efforts: Vec<u16>,
 }
 
 impl Journey {
@@ -88,22 +88,31 @@ impl Journey {
 
     /// The crate's route. Its closure is asked for the tile that is entered, and for the two ends,
     /// which must be open; the search itself adds nothing to what it answers.
-    fn of_crate(&self) -> Option<Vec<Hex>> {
+    pub fn of_crate(&self) -> Option<Vec<Hex>> {
         let efforts = self.by_tile(&self.efforts);
         let open = |tile| Self::open(&efforts, tile).map(|effort| effort as u32);
         let route = a_star(self.start, self.end, |_, to| open(to))?;
-        let joined = route.windows(2).all(|pair| STEPS.contains(&(pair[1] - pair[0])));
-        if route.first() != Some(&self.start) || route.last() != Some(&self.end) || !joined {
+        if !self.leads(&route) {
             stop("the crate's route does not lead from the start to the end");
         }
         Some(route)
     }
 
-    /// The cost of a route: the efforts of the tiles after the start.
-    fn cost(&self, route: &[Hex]) -> u64 {
+    /// Says whether a list of tiles leads from the start to the end by single steps.
+    pub fn leads(&self, route: &[Hex]) -> bool {
+        let joined = route.windows(2).all(|pair| STEPS.contains(&(pair[1] - pair[0])));
+        route.first() == Some(&self.start) && route.last() == Some(&self.end) && joined
+    }
+
+    /// The efforts of the tiles after the start, added up, or none where one of them is not open.
+    pub fn paid(&self, route: &[Hex]) -> Option<u64> {
         let efforts = self.by_tile(&self.efforts);
-        let entered = route[1..].iter().map(|&tile| Self::open(&efforts, tile));
-        entered.sum::<Option<u64>>().unwrap_or_else(|| stop("a route enters a barred tile"))
+        route[1..].iter().map(|&tile| Self::open(&efforts, tile)).sum()
+    }
+
+    /// The cost of a route over open tiles.
+    fn cost(&self, route: &[Hex]) -> u64 {
+        self.paid(route).unwrap_or_else(|| stop("a route enters a barred tile"))
     }
 
     /// Says whether the crate's route is dearer than the best one. The program stops where it is
@@ -161,7 +170,7 @@ const JOURNEYS: usize = 6_000;
 
 /// The efforts of a journey's tiles, by turns: flat, gentle, rough, gentle with barred tiles,
 /// mostly barred, and the same five with efforts of 0 among them.
-fn ground(generator: &mut Generator, turn: usize, area: usize) -> Vec<u16> {
+pub fn ground(generator: &mut Generator, turn: usize, area: usize) -> Vec<u16> {
     let least = if turn % 2 == 0 { 1 } else { 0 };
     let mut effort = || {
         let gentle = generator.between(least, least + 3) as u16;

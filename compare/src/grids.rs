@@ -1,0 +1,104 @@
+//! Compares the conversions to and from offset and doubled grids.
+
+use crate::generator::Generator;
+use crate::library;
+use crate::mapping::{doubled_mode, offset_mode, orientation};
+use crate::pairs::compare as compare_pair;
+use crate::samples::{CHOSEN, LIMIT, random, within_limit};
+use crate::tally::Tally;
+use hexx::Hex;
+
+/// How many tiles are converted to each kind of grid, and how many pairs back.
+const TILES: usize = 100_000;
+
+pub fn compare(tally: &mut Tally) {
+    let generator = &mut Generator::new(0x0FF5_E700_0000_0103);
+    for turn in 0..TILES {
+        // The grids go by turns of four, so that they meet every kind of tile, which goes by turns of three.
+        let grid = [turn as u32 % 2, turn as u32 / 2 % 2];
+        to_offset(tally, tile(generator, turn), grid);
+        from_offset(tally, offset_pair(generator, turn, grid), grid);
+        let mode = grid[0];
+        to_doubled(tally, tile(generator, turn), mode);
+        from_doubled(tally, doubled_pair(generator, turn, mode), mode);
+    }
+}
+
+/// A tile near the middle, anywhere within the limit, or of small and outermost coordinates, by turns.
+fn tile(generator: &mut Generator, turn: usize) -> Hex {
+    let mut chosen = || CHOSEN[generator.between(0, CHOSEN.len() as i32 - 1) as usize];
+    match turn % 3 {
+        0 => Hex::new(chosen(), chosen()),
+        1 => random(generator, 50),
+        _ => random(generator, LIMIT),
+    }
+}
+
+fn offset_of(tile: Hex, [mode, oriented]: [u32; 2]) -> [i32; 2] {
+    tile.to_offset_coordinates(offset_mode(mode as usize), orientation(oriented as usize))
+}
+
+fn from_offset_of(pair: [i32; 2], [mode, oriented]: [u32; 2]) -> Hex {
+    Hex::from_offset_coordinates(pair, offset_mode(mode as usize), orientation(oriented as usize))
+}
+
+fn doubled_of(tile: Hex, mode: u32) -> [i32; 2] {
+    tile.to_doubled_coordinates(doubled_mode(mode as usize))
+}
+
+fn from_doubled_of(pair: [i32; 2], mode: u32) -> Hex {
+    Hex::from_doubled_coordinates(pair, doubled_mode(mode as usize))
+}
+
+fn to_offset(tally: &mut Tally, tile: Hex, grid: [u32; 2]) {
+    let arguments = [tile.x.into(), tile.y.into(), grid[0].into(), grid[1].into()];
+    let ours = |run: &mut [i32]| library::to_offset(tile, grid, run);
+    compare_pair(tally, "kyrla_to_offset", &arguments, ours, Some(offset_of(tile, grid)));
+}
+
+fn from_offset(tally: &mut Tally, pair: [i32; 2], grid: [u32; 2]) {
+    let arguments = [pair[0].into(), pair[1].into(), grid[0].into(), grid[1].into()];
+    let ours = |run: &mut [i32]| library::from_offset(pair, grid, run);
+    compare_pair(tally, "kyrla_from_offset", &arguments, ours, Some(from_offset_of(pair, grid).to_array()));
+}
+
+fn to_doubled(tally: &mut Tally, tile: Hex, mode: u32) {
+    let arguments = [tile.x.into(), tile.y.into(), mode.into()];
+    let ours = |run: &mut [i32]| library::to_doubled(tile, mode, run);
+    compare_pair(tally, "kyrla_to_doubled", &arguments, ours, Some(doubled_of(tile, mode)));
+}
+
+fn from_doubled(tally: &mut Tally, pair: [i32; 2], mode: u32) {
+    let arguments = [pair[0].into(), pair[1].into(), mode.into()];
+    let ours = |run: &mut [i32]| library::from_doubled(pair, mode, run);
+    compare_pair(tally, "kyrla_from_doubled", &arguments, ours, Some(from_doubled_of(pair, mode).to_array()));
+}
+
+/// A pair whose tile is within the limit. Half of them the crate makes from a tile, which meets the outermost tiles; half are drawn
+/// without asking the crate for a pair, which meets pairs that its way there might never make.
+fn offset_pair(generator: &mut Generator, turn: usize, grid: [u32; 2]) -> [i32; 2] {
+    if turn / 4 % 2 == 0 {
+        return offset_of(tile(generator, turn), grid);
+    }
+    // Half a limit more is as far as the outermost columns and rows go.
+    drawn(generator, LIMIT / 2 * 3, |pair| within_limit(from_offset_of(pair, grid)))
+}
+
+/// A pair with an even sum whose tile is within the limit, by the same halves.
+fn doubled_pair(generator: &mut Generator, turn: usize, mode: u32) -> [i32; 2] {
+    if turn / 4 % 2 == 0 {
+        return doubled_of(tile(generator, turn), mode);
+    }
+    let even = |[column, row]: [i32; 2]| (column + row) % 2 == 0;
+    drawn(generator, LIMIT * 3, |pair| even(pair) && within_limit(from_doubled_of(pair, mode)))
+}
+
+/// Draws pairs until one is as wanted.
+fn drawn(generator: &mut Generator, bound: i32, wanted: impl Fn([i32; 2]) -> bool) -> [i32; 2] {
+    loop {
+        let pair = random(generator, bound).to_array();
+        if wanted(pair) {
+            return pair;
+        }
+    }
+}
