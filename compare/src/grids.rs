@@ -4,15 +4,26 @@ use crate::generator::Generator;
 use crate::library;
 use crate::mapping::{doubled_mode, offset_mode, orientation};
 use crate::pairs::compare as compare_pair;
-use crate::samples::{CHOSEN, LIMIT, random, within_limit};
+use crate::samples::{CHOSEN, LIMIT, pairs, random, within_limit};
 use crate::tally::Tally;
 use hexx::Hex;
 
 /// How many tiles are converted to each kind of grid, and how many pairs back.
-const TILES: usize = 100_000;
+const TILES: usize = 102_000;
+
+/// How far from 0 a tile near the middle lies at most, and how far from the limit one at the edge.
+const NEAR: i32 = 500;
 
 pub fn compare(tally: &mut Tally) {
     let generator = &mut Generator::new(0x0FF5_E700_0000_0103);
+    for tile in pairs(&CHOSEN) {
+        for grid in [[0, 0], [0, 1], [1, 0], [1, 1]] {
+            to_offset(tally, tile, grid);
+            from_offset(tally, offset_of(tile, grid), grid);
+            to_doubled(tally, tile, grid[0]);
+            from_doubled(tally, doubled_of(tile, grid[0]), grid[0]);
+        }
+    }
     for turn in 0..TILES {
         // The grids go by turns of four, so that they meet every kind of tile, which goes by turns of three.
         let grid = [turn as u32 % 2, turn as u32 / 2 % 2];
@@ -24,12 +35,12 @@ pub fn compare(tally: &mut Tally) {
     }
 }
 
-/// A tile near the middle, anywhere within the limit, or of small and outermost coordinates, by turns.
+/// A tile near the middle, anywhere within the limit, or near a corner of the limit, by turns.
 fn tile(generator: &mut Generator, turn: usize) -> Hex {
-    let mut chosen = || CHOSEN[generator.between(0, CHOSEN.len() as i32 - 1) as usize];
+    let mut edge = || (LIMIT - generator.between(0, NEAR)) * (2 * generator.between(0, 1) - 1);
     match turn % 3 {
-        0 => Hex::new(chosen(), chosen()),
-        1 => random(generator, 50),
+        0 => Hex::new(edge(), edge()),
+        1 => random(generator, NEAR),
         _ => random(generator, LIMIT),
     }
 }

@@ -25,16 +25,45 @@ unsafe extern "C" {
     fn kyrla_from_doubled(column: i32, row: i32, mode: u32, run: *mut i32, run_len: usize) -> i64;
 
     fn kyrla_range(
-        cx: i32, cy: i32, radius: u32, efforts: *const u16, efforts_len: usize, sx: i32, sy: i32, budget: u32,
-        totals: *mut u32, totals_len: usize,
+        cx: i32,
+        cy: i32,
+        radius: u32,
+        efforts: *const u16,
+        efforts_len: usize,
+        sx: i32,
+        sy: i32,
+        budget: u32,
+        totals: *mut u32,
+        totals_len: usize,
     ) -> i64;
     fn kyrla_check(
-        cx: i32, cy: i32, radius: u32, efforts: *const u16, efforts_len: usize, sx: i32, sy: i32, budget: u32,
-        totals: *const u32, totals_len: usize, broken: *mut u32, broken_len: usize,
+        cx: i32,
+        cy: i32,
+        radius: u32,
+        efforts: *const u16,
+        efforts_len: usize,
+        sx: i32,
+        sy: i32,
+        budget: u32,
+        totals: *const u32,
+        totals_len: usize,
+        broken: *mut u32,
+        broken_len: usize,
     ) -> i64;
     fn kyrla_route(
-        cx: i32, cy: i32, radius: u32, efforts: *const u16, efforts_len: usize, sx: i32, sy: i32, ex: i32, ey: i32,
-        ranks: *mut u64, ranks_len: usize, run: *mut i32, run_len: usize,
+        cx: i32,
+        cy: i32,
+        radius: u32,
+        efforts: *const u16,
+        efforts_len: usize,
+        sx: i32,
+        sy: i32,
+        ex: i32,
+        ey: i32,
+        ranks: *mut u64,
+        ranks_len: usize,
+        run: *mut i32,
+        run_len: usize,
     ) -> i64;
 }
 
@@ -98,19 +127,12 @@ pub fn check(ride: &Ride, totals: &[u32], broken: &mut [u32]) -> i64 {
     let (c, start, efforts) = (ride.centre, ride.start, &ride.efforts);
     let (table, length) = (efforts.as_ptr(), efforts.len());
     let (told, noted) = (totals.as_ptr(), broken.as_mut_ptr());
-    unsafe {
-        kyrla_check(c.x, c.y, ride.radius, table, length, start.x, start.y, ride.budget, told, totals.len(), noted, broken.len())
-    }
+    unsafe { kyrla_check(c.x, c.y, ride.radius, table, length, start.x, start.y, ride.budget, told, totals.len(), noted, broken.len()) }
 }
 
 pub fn route(journey: &Journey, ranks: &mut [u64], run: &mut [i32]) -> i64 {
     let (c, start, end, efforts) = (journey.centre, journey.start, journey.end, &journey.efforts);
     let (table, length) = (efforts.as_ptr(), efforts.len());
     let (ranked, listed) = (ranks.as_mut_ptr(), run.as_mut_ptr());
-    unsafe {
-        kyrla_route(
-            c.x, c.y, journey.radius, table, length, start.x, start.y, end.x, end.y,
-            ranked, ranks.len(), listed, run.len(),
-        )
-    }
+    unsafe { kyrla_route(c.x, c.y, journey.radius, table, length, start.x, start.y, end.x, end.y, ranked, ranks.len(), listed, run.len()) }
 }

@@ -4,12 +4,12 @@ use crate::generator::Generator;
 use crate::library;
 use crate::mapping::{edge, edge_clockwise, ring_clockwise, vertex};
 use crate::pairs::UNTOUCHED;
-use crate::samples::Centres;
+use crate::samples::{Centres, LIMIT, random};
 use crate::tally::Tally;
 use hexx::Hex;
 
 /// How many lists of each kind are asked for.
-const LISTS: usize = 20_000;
+const LISTS: usize = 25_000;
 
 /// The largest range that a list may have.
 const LARGEST: i32 = 1_000;
@@ -31,7 +31,9 @@ pub fn compare(tally: &mut Tally) {
     let generator = &mut Generator::new(0x0415_7000_0000_0106);
     let centres = &mut Centres::new(0x0CE4_7435_0000_0107);
     for turn in 0..LISTS {
-        let list = list(generator, centres.next(), turn);
+        // Most of the centres that come in turn are at the limit, so each second one is drawn anywhere.
+        let centre = if turn % 2 == 0 { centres.next() } else { random(generator, LIMIT) };
+        let list = list(generator, centre, turn);
         ring(tally, &list);
         ring_edge(tally, &list);
         wedge(tally, &list);
@@ -44,13 +46,13 @@ pub fn compare(tally: &mut Tally) {
 /// close together.
 fn list(generator: &mut Generator, centre: Hex, turn: usize) -> List {
     let mut between = |least, largest| generator.between(least, largest) as u32;
-    let ranges = match turn % FAR {
+    let ranges = match turn / 2 % FAR {
         0 => {
             let first = between(0, LARGEST);
             [first, between(first as i32, LARGEST.min(first as i32 + 3))]
         }
         1..=5 => [between(0, 40), between(20, 60)],
-        _ => [between(0, 12), between(0, 12)],
+        _ => [between(0, 24), between(0, 24)],
     };
     List { centre, ranges, direction: between(0, 5), sense: between(0, 1), over: between(0, 5) as usize }
 }
@@ -64,6 +66,7 @@ impl List {
         let answer = ours(&mut run);
         let mut arguments = self.centre.to_array().map(i64::from).to_vec();
         arguments.extend(asked.iter().map(|&number| i64::from(number)));
+        arguments.push(run.len() as i64);
         tally.compare(call, &arguments, (answer, &run), (tiles.len() as i64, &filled));
     }
 }

@@ -11,12 +11,12 @@
 //! - an index from the area on, which the crate's formula takes to the centre or elsewhere;
 //! - a budget above 180, for which the crate's memory and time grow with the budget.
 //!
-//! Three things are compared in the form that both share. A tile, or a row and column, that is not of the map is refusal 5, where the
-//! crate's map has nothing. The crate's range is a set of tiles, and a total is the smallest budget whose set has the tile. Of a route
-//! and of each rank the cost is compared: the crate's must be equal where no effort is 0, and must not be less where one is. The crate
-//! has no totals check: the totals from its sets must be accepted, and damaged copies refused at the index that `oracle/` says.
+//! Some things are compared in a form that both share. A tile, or a row and column, that is not of the map is refusal 5, where the
+//! crate's map has nothing. The crate's range is a set of tiles, and a total is the smallest budget whose set has the tile. The crate
+//! has no totals check: the totals from its sets must be accepted, and damaged copies refused at the index that the neighbour rule, as
+//! `oracle/` reads it, says. The crate's routes have no ranks and another choice among equals: `ways.rs` says how they are compared.
 //!
-//! The modules of `oracle/questions/` that ask the crate are used as they are, with other seeds.
+//! The modules of `oracle/questions/` that ask the crate are used as they stand, with other seeds.
 
 mod grids;
 mod library;

@@ -1,6 +1,7 @@
-//! Counts the inputs that were compared, by call, and keeps the first differences to be shown.
+//! Counts the inputs that were compared, by call and each once, and keeps the first differences to be shown.
 
 use crate::stop;
+use std::collections::HashSet;
 use std::fmt::{Debug, Write};
 
 /// The calls, each with the number of inputs that must at least be compared, so that no comparison falls away unnoticed.
@@ -44,20 +45,26 @@ struct Row {
 
 pub struct Tally {
     rows: Vec<Row>,
+    /// The inputs so far, by the place of their call among the rows. An input that comes again tells nothing new and is not counted.
+    seen: HashSet<(usize, Vec<i64>)>,
     differences: String,
 }
 
 impl Tally {
     pub fn new() -> Self {
         let row = |&(call, floor): &(&'static str, u64)| Row { call, floor, compared: 0, differ: 0 };
-        Self { rows: FLOORS.iter().map(row).collect(), differences: String::new() }
+        Self { rows: FLOORS.iter().map(row).collect(), seen: HashSet::new(), differences: String::new() }
     }
 
     /// Counts one input, and what is wrong with its answer if anything is.
     pub fn judge(&mut self, call: &str, arguments: &[i64], wrong: Option<String>) {
-        let Some(row) = self.rows.iter_mut().find(|row| row.call == call) else {
+        let Some(at) = self.rows.iter().position(|row| row.call == call) else {
             stop(&format!("{call} is not among the calls that are counted"));
         };
+        if !self.seen.insert((at, arguments.to_vec())) {
+            return;
+        }
+        let row = &mut self.rows[at];
         row.compared += 1;
         let Some(wrong) = wrong else {
             return;
@@ -110,7 +117,7 @@ impl Tally {
 }
 
 /// What differs in two answers, if anything does: the number, the count of entries, or the first entry.
-fn difference<E: PartialEq + Debug>(ours: Answer<E>, theirs: Answer<E>) -> Option<String> {
+pub fn difference<E: PartialEq + Debug>(ours: Answer<E>, theirs: Answer<E>) -> Option<String> {
     if ours == theirs {
         return None;
     }

@@ -12,7 +12,7 @@ use hexx::Hex;
 /// How many maps are asked about, by turns of all radii from 0 to 60, and how many questions of each kind every map is asked.
 const MAPS: u32 = 610;
 const RADII: u32 = 61;
-const QUESTIONS: usize = 165;
+const QUESTIONS: usize = 200;
 
 /// One tile of so many is drawn from all that have 32-bit coordinates.
 const FAR: usize = 16;

@@ -1,42 +1,45 @@
-//! Compares routes and ranks by what they cost. The crate's choice among routes of one cost is not ours, so beside its cost a route of
-//! ours is held to what every route must be: it leads from the start to the end over open tiles, and its rank tells its cost and steps.
+//! Compares routes and ranks, in two ways.
+//!
+//! The crate is asked for the route from every tile to the end, with a price of each effort that is the effort times 65,536, and 1. No
+//! price is 0, so that its search finds the least sum, which is the rank: the least cost, and the fewest steps at that cost. The ranks
+//! and the rule for routes of one rank, the smallest direction first, make the tiles that are wanted.
+//!
+//! The crate is also asked with the efforts as they are. What its route costs must then be our cost where no effort is 0; elsewhere it
+//! may be dearer, since the crate takes each step to cost at least 1, and must not be cheaper.
 
 use crate::generator::Generator;
 use crate::library;
 use crate::pairs::UNTOUCHED;
-use crate::routes::{Journey, ground};
+use crate::routes::{Journey, Rank, ground};
 use crate::samples::Centres;
 use crate::sheet::NO_OPEN_PATH;
-use crate::tally::Tally;
+use crate::tally::{Tally, difference};
 use hexx::Hex;
 
 /// How many journeys are asked, over maps of the radii from 0 to the largest here.
-const JOURNEYS: usize = 5_000;
+const JOURNEYS: usize = 5_500;
 const LARGEST: i32 = 12;
 
-/// What an entry of the ranks holds before a call, and the rank of a tile from which no route leads. A rank is its cost times a factor,
-/// and its steps added to it.
+/// What an entry of the ranks holds before a call, the rank of a tile from which no route leads, and by what a rank's cost is multiplied.
 const UNRANKED: u64 = 7_777_777_777_777_777_777;
 const NO_RANK: u64 = u64::MAX;
-const FACTOR: u64 = 65_536;
-
-/// What a call of ours answered and wrote.
-struct Told {
-    answer: i64,
-    ranks: Vec<u64>,
-    run: Vec<i32>,
-}
+const FACTOR: u32 = 65_536;
 
 pub fn compare(tally: &mut Tally) {
     let generator = &mut Generator::new(0x0A57_A400_0000_010A);
     let centres = &mut Centres::new(0x0CE4_7435_0000_010B);
     for turn in 0..JOURNEYS {
         let (mut journey, tiles) = journey(generator, centres.next(), turn);
-        let over = generator.between(0, 5) as usize;
-        let mut told = Told { answer: 0, ranks: vec![UNRANKED; tiles.len()], run: vec![UNTOUCHED; 2 * tiles.len() + over] };
-        told.answer = library::route(&journey, &mut told.ranks, &mut told.run);
-        let arguments = arguments(&journey);
-        let wrong = wrong_route(&journey, &tiles, &told).or_else(|| wrong_rank(&mut journey, &tiles, &told.ranks));
+        // A route has each tile of the map at most once, and the run has room for some entries more.
+        let mut run = vec![UNTOUCHED; 2 * tiles.len() + generator.between(0, 5) as usize];
+        let mut ranks = vec![UNRANKED; tiles.len()];
+        let answer = library::route(&journey, &mut ranks, &mut run);
+        let arguments = arguments(&journey, run.len());
+        let cost = plain_cost(&journey);
+        let (number, filled, ranked) = wanted(&mut journey, &tiles, run.len());
+        let wrong = difference((answer, &run), (number, &filled))
+            .or_else(|| difference((answer, &ranks), (number, &ranked)).map(|wrong| format!("of the ranks, {wrong}")))
+            .or_else(|| wrong_cost(&journey, rank_of(&journey, &tiles, &ranks), cost));
         tally.judge("kyrla_route", &arguments, wrong);
     }
 }
@@ -53,59 +56,55 @@ fn journey(generator: &mut Generator, centre: Hex, turn: usize) -> (Journey, Vec
     (Journey { centre, radius, start, end, efforts }, tiles)
 }
 
-/// What the crate's route costs, if it has one.
-fn cost_of_crate(journey: &Journey) -> Option<u64> {
-    journey.of_crate().and_then(|route| journey.paid(&route))
-}
-
-/// Says whether a cost of ours is as it should be: the crate's, or below it where the crate may go a dearer way.
-fn fits(journey: &Journey, ours: u64, theirs: u64) -> bool {
-    ours == theirs || (ours < theirs && journey.efforts.contains(&0))
-}
-
-/// What is wrong with the number, the run or the start's rank, if anything is.
-fn wrong_route(journey: &Journey, tiles: &[Hex], told: &Told) -> Option<String> {
-    let theirs = cost_of_crate(journey);
-    let listed = usize::try_from(told.answer).unwrap_or(0);
-    if told.run.iter().skip(2 * listed).any(|&entry| entry != UNTOUCHED) {
-        return Some("an entry past the route was written".to_string());
-    }
-    let Some(theirs) = theirs else {
-        return (told.answer != -NO_OPEN_PATH).then(|| format!("answers {}, the crate has no route", told.answer));
-    };
-    if listed == 0 || listed > tiles.len() {
-        return Some(format!("answers {}, the crate's route costs {theirs}", told.answer));
-    }
-    let route: Vec<Hex> = told.run[..2 * listed].chunks(2).map(|pair| Hex::new(pair[0], pair[1])).collect();
-    if !journey.leads(&route) {
-        return Some("the route does not lead from the start to the end".to_string());
-    }
-    let Some(ours) = journey.paid(&route) else {
-        return Some("the route enters a tile that is not open".to_string());
-    };
-    let start = tiles.iter().position(|&tile| tile == journey.start).map(|at| told.ranks[at]);
-    let right = fits(journey, ours, theirs) && start == Some(ours * FACTOR + listed as u64 - 1);
-    (!right).then(|| format!("costs {ours} by {listed} tiles and has the rank {start:?}, the crate's costs {theirs}"))
-}
-
-/// What is wrong with the rank of a tile, if anything is: the crate is asked for the route from each tile to the end.
-fn wrong_rank(journey: &mut Journey, tiles: &[Hex], ranks: &[u64]) -> Option<String> {
-    tiles.iter().zip(ranks).find_map(|(&tile, &rank)| {
+/// The number, the run and the ranks that should be answered. The start of the journey is the same afterwards.
+fn wanted(journey: &mut Journey, tiles: &[Hex], entries: usize) -> (i64, Vec<i32>, Vec<u64>) {
+    let start = journey.start;
+    let rank = |&tile: &Hex| {
         journey.start = tile;
-        let right = match cost_of_crate(journey) {
-            None => rank == NO_RANK,
-            Some(theirs) => rank != NO_RANK && fits(journey, rank / FACTOR, theirs),
-        };
-        (!right).then(|| format!("the rank of ({}, {}) is {rank}, which is not what the crate's route costs", tile.x, tile.y))
-    })
+        rank_of_crate(journey)
+    };
+    let ranks: Vec<Rank> = tiles.iter().map(rank).collect();
+    journey.start = start;
+    let best = journey.best(&ranks);
+    let number = best.as_ref().map_or(-NO_OPEN_PATH, |route| route.len() as i64);
+    let mut run: Vec<i32> = best.unwrap_or_default().iter().flat_map(|tile| tile.to_array()).collect();
+    run.resize(entries, UNTOUCHED);
+    let packed = |&rank: &Rank| rank.map_or(NO_RANK, |(cost, steps)| cost * u64::from(FACTOR) + steps);
+    (number, run, ranks.iter().map(packed).collect())
 }
 
-/// The arguments of a journey that are numbers, and then its efforts.
-fn arguments(journey: &Journey) -> Vec<i64> {
-    let ends = [journey.start, journey.end].map(|tile| tile.to_array().map(i64::from)).concat();
+/// The rank of the journey's start by the crate's search. No sum here comes near the ends of 32 bits, in which the crate adds.
+fn rank_of_crate(journey: &Journey) -> Rank {
+    let route = journey.of_crate_at(|effort| effort * FACTOR + 1)?;
+    Some((journey.cost(&route), route.len() as u64 - 1))
+}
+
+/// What the crate's route costs where the efforts are the prices, if it has one.
+fn plain_cost(journey: &Journey) -> Option<u64> {
+    journey.of_crate_at(|effort| effort).map(|route| journey.cost(&route))
+}
+
+/// The rank that the library gave to the start.
+fn rank_of(journey: &Journey, tiles: &[Hex], ranks: &[u64]) -> u64 {
+    tiles.iter().zip(ranks).find(|&(&tile, _)| tile == journey.start).map_or(UNRANKED, |(_, &rank)| rank)
+}
+
+/// What is wrong with the cost that the start's rank tells, if anything is, beside the crate's cost for the efforts as they are.
+fn wrong_cost(journey: &Journey, rank: u64, theirs: Option<u64>) -> Option<String> {
+    let ours = (rank != NO_RANK).then_some(rank / u64::from(FACTOR));
+    let right = match (ours, theirs) {
+        (Some(ours), Some(theirs)) => ours == theirs || (ours < theirs && journey.efforts.contains(&0)),
+        _ => ours == theirs,
+    };
+    (!right).then(|| format!("costs {ours:?}, the crate's route {theirs:?}"))
+}
+
+/// The arguments of a journey that are numbers, the length of the run, and the efforts.
+fn arguments(journey: &Journey, entries: usize) -> Vec<i64> {
     let mut arguments = journey.centre.to_array().map(i64::from).to_vec();
     arguments.push(journey.radius.into());
-    arguments.extend(ends);
+    arguments.extend([journey.start, journey.end].map(|tile| tile.to_array().map(i64::from)).concat());
+    arguments.push(entries as i64);
     arguments.extend(journey.efforts.iter().map(|&effort| i64::from(effort)));
     arguments
 }

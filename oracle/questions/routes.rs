@@ -27,7 +27,7 @@ const STEPS: [Hex; 6] = [
 ];
 
 /// A rank as its cost and its steps, or none where no route leads to the end.
-type Rank = Option<(u64, u64)>;
+pub type Rank = Option<(u64, u64)>;
 
 /// A map with its efforts by index, and the two ends of a route.
 pub struct Journey {
@@ -68,7 +68,7 @@ impl Journey {
     }
 
     /// The tiles of the best route: from the start on, the first direction that makes up the rank.
-    fn best(&self, ranks: &[Rank]) -> Option<Vec<Hex>> {
+    pub fn best(&self, ranks: &[Rank]) -> Option<Vec<Hex>> {
         let efforts = self.by_tile(&self.efforts);
         let ranks = self.by_tile(ranks);
         let mut tile = self.start;
@@ -86,33 +86,30 @@ impl Journey {
         Some(route)
     }
 
-    /// The crate's route. Its closure is asked for the tile that is entered, and for the two ends,
-    /// which must be open; the search itself adds nothing to what it answers.
-    pub fn of_crate(&self) -> Option<Vec<Hex>> {
+    /// The crate's route.
+    fn of_crate(&self) -> Option<Vec<Hex>> {
+        self.of_crate_at(|effort| effort)
+    }
+
+    /// The crate's route where an effort has a price. Its closure is asked for the tile that is
+    /// entered, and for the two ends, which must be open; the search itself adds nothing to what
+    /// it answers.
+    pub fn of_crate_at(&self, price: impl Fn(u32) -> u32) -> Option<Vec<Hex>> {
         let efforts = self.by_tile(&self.efforts);
-        let open = |tile| Self::open(&efforts, tile).map(|effort| effort as u32);
+        let open = |tile| Self::open(&efforts, tile).map(|effort| price(effort as u32));
         let route = a_star(self.start, self.end, |_, to| open(to))?;
-        if !self.leads(&route) {
+        let joined = route.windows(2).all(|pair| STEPS.contains(&(pair[1] - pair[0])));
+        if route.first() != Some(&self.start) || route.last() != Some(&self.end) || !joined {
             stop("the crate's route does not lead from the start to the end");
         }
         Some(route)
     }
 
-    /// Says whether a list of tiles leads from the start to the end by single steps.
-    pub fn leads(&self, route: &[Hex]) -> bool {
-        let joined = route.windows(2).all(|pair| STEPS.contains(&(pair[1] - pair[0])));
-        route.first() == Some(&self.start) && route.last() == Some(&self.end) && joined
-    }
-
-    /// The efforts of the tiles after the start, added up, or none where one of them is not open.
-    pub fn paid(&self, route: &[Hex]) -> Option<u64> {
+    /// The cost of a route: the efforts of the tiles after the start.
+    pub fn cost(&self, route: &[Hex]) -> u64 {
         let efforts = self.by_tile(&self.efforts);
-        route[1..].iter().map(|&tile| Self::open(&efforts, tile)).sum()
-    }
-
-    /// The cost of a route over open tiles.
-    fn cost(&self, route: &[Hex]) -> u64 {
-        self.paid(route).unwrap_or_else(|| stop("a route enters a barred tile"))
+        let entered = route[1..].iter().map(|&tile| Self::open(&efforts, tile));
+        entered.sum::<Option<u64>>().unwrap_or_else(|| stop("a route enters a barred tile"))
     }
 
     /// Says whether the crate's route is dearer than the best one. The program stops where it is
