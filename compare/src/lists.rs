@@ -8,7 +8,7 @@ use crate::samples::{Centres, LIMIT, random};
 use crate::tally::Tally;
 use hexx::Hex;
 
-/// How many lists of each kind are asked for.
+/// How many lists of each kind are asked for, after those of all ranges in every direction and sense.
 const LISTS: usize = 25_000;
 
 /// The largest range that a list may have.
@@ -30,20 +30,19 @@ struct List {
 pub fn compare(tally: &mut Tally) {
     let generator = &mut Generator::new(0x0415_7000_0000_0106);
     let centres = &mut Centres::new(0x0CE4_7435_0000_0107);
+    for turn in 0..12 {
+        let whole = List { centre: centres.next(), ranges: [0, LARGEST as u32], direction: turn / 2, sense: turn % 2, over: 1 };
+        whole.compare_all(tally);
+    }
     for turn in 0..LISTS {
         // Most of the centres that come in turn are at the limit, so each second one is drawn anywhere.
         let centre = if turn % 2 == 0 { centres.next() } else { random(generator, LIMIT) };
-        let list = list(generator, centre, turn);
-        ring(tally, &list);
-        ring_edge(tally, &list);
-        wedge(tally, &list);
-        corner_wedge(tally, &list);
-        spiral(tally, &list);
+        list(generator, centre, turn).compare_all(tally);
     }
 }
 
-/// A question by turns: small ranges in any order, so that some lists are empty, middling ones, and now and then large ones that lie
-/// close together.
+/// A question by turns: small ranges, some in any order, so that there are empty lists; middling ones; and now and then large ones that
+/// lie close together.
 fn list(generator: &mut Generator, centre: Hex, turn: usize) -> List {
     let mut between = |least, largest| generator.between(least, largest) as u32;
     let ranges = match turn / 2 % FAR {
@@ -51,13 +50,26 @@ fn list(generator: &mut Generator, centre: Hex, turn: usize) -> List {
             let first = between(0, LARGEST);
             [first, between(first as i32, LARGEST.min(first as i32 + 3))]
         }
-        1..=5 => [between(0, 40), between(20, 60)],
-        _ => [between(0, 24), between(0, 24)],
+        1..=5 => [between(0, 40), between(40, 60)],
+        6..=8 => [between(0, 24), between(0, 24)],
+        _ => {
+            let first = between(0, 24);
+            [first, between(first as i32, 24)]
+        }
     };
     List { centre, ranges, direction: between(0, 5), sense: between(0, 1), over: between(0, 5) as usize }
 }
 
 impl List {
+    /// Compares each kind of list that the numbers make.
+    fn compare_all(&self, tally: &mut Tally) {
+        ring(tally, self);
+        ring_edge(tally, self);
+        wedge(tally, self);
+        corner_wedge(tally, self);
+        spiral(tally, self);
+    }
+
     /// Lends a run to the call, and compares it with the crate's tiles as they would lie in it.
     fn compare(&self, tally: &mut Tally, call: &str, asked: &[u32], tiles: Vec<Hex>, ours: impl FnOnce(&mut [i32]) -> i64) {
         let mut filled: Vec<i32> = tiles.iter().flat_map(|tile| tile.to_array()).collect();

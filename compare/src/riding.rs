@@ -28,8 +28,12 @@ pub fn compare(tally: &mut Tally) {
         let mut ours = vec![UNTOUCHED; totals.len()];
         let answer = library::range(&ride, &mut ours);
         tally.compare("kyrla_range", &arguments(&ride), (answer, &ours), (0, &totals));
-        check(tally, &ride, &totals);
-        check(tally, &ride, &damaged(generator, turn, &ride, &totals));
+        check(tally, &ride, &totals, None);
+        let table = damaged(generator, turn, &ride, &totals);
+        // Damage makes no right table, unless the crate's totals were not right.
+        if let Some(broken) = ride.broken(&table) {
+            check(tally, &ride, &table, Some(broken));
+        }
     }
 }
 
@@ -55,18 +59,17 @@ fn ride(generator: &mut Generator, centre: Hex, turn: usize) -> Ride {
     ride
 }
 
-/// Compares the verdict on a table, and the index that is noted, with the neighbour rule as the oracle reads it. The arguments that are
-/// kept end with the table.
-fn check(tally: &mut Tally, ride: &Ride, totals: &[u32]) {
-    let mut broken = [UNTOUCHED; 2];
-    let answer = library::check(ride, totals, &mut broken);
-    let (number, noted) = match ride.broken(totals) {
+/// Compares the verdict on a table with what it should be: right, or broken at an index, which is noted. The arguments end with the table.
+fn check(tally: &mut Tally, ride: &Ride, totals: &[u32], broken: Option<usize>) {
+    let mut notes = [UNTOUCHED; 2];
+    let answer = library::check(ride, totals, &mut notes);
+    let (number, noted) = match broken {
         None => (0, UNTOUCHED),
         Some(index) => (-NOT_RIGHT, index as u32),
     };
     let mut arguments = arguments(ride);
     arguments.extend(totals.iter().map(|&total| i64::from(total)));
-    tally.compare("kyrla_check", &arguments, (answer, &broken), (number, &[noted, UNTOUCHED]));
+    tally.compare("kyrla_check", &arguments, (answer, &notes), (number, &[noted, UNTOUCHED]));
 }
 
 /// The arguments of a ride that are numbers, and then its efforts.
