@@ -19,19 +19,19 @@ pub fn compare(tally: &mut Tally) {
     for tile in pairs(&CHOSEN) {
         for grid in [[0, 0], [0, 1], [1, 0], [1, 1]] {
             to_offset(tally, tile, grid);
-            from_offset(tally, offset_of(tile, grid), grid);
+            from_offset(tally, crate_to_offset(tile, grid), grid);
             to_doubled(tally, tile, grid[0]);
-            from_doubled(tally, doubled_of(tile, grid[0]), grid[0]);
+            from_doubled(tally, crate_to_doubled(tile, grid[0]), grid[0]);
         }
     }
     for turn in 0..TILES {
         // The grids go by turns of four, so that they meet every kind of tile, which goes by turns of three.
         let grid = [turn as u32 % 2, turn as u32 / 2 % 2];
         to_offset(tally, tile(generator, turn), grid);
-        from_offset(tally, offset_pair(generator, turn, grid), grid);
+        from_offset(tally, any_offset_pair(generator, turn, grid), grid);
         let mode = grid[0];
         to_doubled(tally, tile(generator, turn), mode);
-        from_doubled(tally, doubled_pair(generator, turn, mode), mode);
+        from_doubled(tally, any_doubled_pair(generator, turn, mode), mode);
     }
 }
 
@@ -45,63 +45,63 @@ fn tile(generator: &mut Generator, turn: usize) -> Hex {
     }
 }
 
-fn offset_of(tile: Hex, [mode, oriented]: [u32; 2]) -> [i32; 2] {
+fn crate_to_offset(tile: Hex, [mode, oriented]: [u32; 2]) -> [i32; 2] {
     tile.to_offset_coordinates(offset_mode(mode as usize), orientation(oriented as usize))
 }
 
-fn from_offset_of(pair: [i32; 2], [mode, oriented]: [u32; 2]) -> Hex {
+fn crate_from_offset(pair: [i32; 2], [mode, oriented]: [u32; 2]) -> Hex {
     Hex::from_offset_coordinates(pair, offset_mode(mode as usize), orientation(oriented as usize))
 }
 
-fn doubled_of(tile: Hex, mode: u32) -> [i32; 2] {
+fn crate_to_doubled(tile: Hex, mode: u32) -> [i32; 2] {
     tile.to_doubled_coordinates(doubled_mode(mode as usize))
 }
 
-fn from_doubled_of(pair: [i32; 2], mode: u32) -> Hex {
+fn crate_from_doubled(pair: [i32; 2], mode: u32) -> Hex {
     Hex::from_doubled_coordinates(pair, doubled_mode(mode as usize))
 }
 
 fn to_offset(tally: &mut Tally, tile: Hex, grid: [u32; 2]) {
     let arguments = [tile.x.into(), tile.y.into(), grid[0].into(), grid[1].into()];
     let ours = |run: &mut [i32]| library::to_offset(tile, grid, run);
-    compare_pair(tally, "kyrla_to_offset", &arguments, ours, Some(offset_of(tile, grid)));
+    compare_pair(tally, "kyrla_to_offset", &arguments, ours, Some(crate_to_offset(tile, grid)));
 }
 
 fn from_offset(tally: &mut Tally, pair: [i32; 2], grid: [u32; 2]) {
     let arguments = [pair[0].into(), pair[1].into(), grid[0].into(), grid[1].into()];
     let ours = |run: &mut [i32]| library::from_offset(pair, grid, run);
-    compare_pair(tally, "kyrla_from_offset", &arguments, ours, Some(from_offset_of(pair, grid).to_array()));
+    compare_pair(tally, "kyrla_from_offset", &arguments, ours, Some(crate_from_offset(pair, grid).to_array()));
 }
 
 fn to_doubled(tally: &mut Tally, tile: Hex, mode: u32) {
     let arguments = [tile.x.into(), tile.y.into(), mode.into()];
     let ours = |run: &mut [i32]| library::to_doubled(tile, mode, run);
-    compare_pair(tally, "kyrla_to_doubled", &arguments, ours, Some(doubled_of(tile, mode)));
+    compare_pair(tally, "kyrla_to_doubled", &arguments, ours, Some(crate_to_doubled(tile, mode)));
 }
 
 fn from_doubled(tally: &mut Tally, pair: [i32; 2], mode: u32) {
     let arguments = [pair[0].into(), pair[1].into(), mode.into()];
     let ours = |run: &mut [i32]| library::from_doubled(pair, mode, run);
-    compare_pair(tally, "kyrla_from_doubled", &arguments, ours, Some(from_doubled_of(pair, mode).to_array()));
+    compare_pair(tally, "kyrla_from_doubled", &arguments, ours, Some(crate_from_doubled(pair, mode).to_array()));
 }
 
 /// A pair whose tile is within the limit. Half of them the crate makes from a tile, which meets the outermost tiles; half are drawn
 /// without asking the crate for a pair, which meets pairs that its way there might never make.
-fn offset_pair(generator: &mut Generator, turn: usize, grid: [u32; 2]) -> [i32; 2] {
+fn any_offset_pair(generator: &mut Generator, turn: usize, grid: [u32; 2]) -> [i32; 2] {
     if turn / 4 % 2 == 0 {
-        return offset_of(tile(generator, turn), grid);
+        return crate_to_offset(tile(generator, turn), grid);
     }
     // Half a limit more is as far as the outermost columns and rows go.
-    drawn(generator, LIMIT / 2 * 3, |pair| within_limit(from_offset_of(pair, grid)))
+    drawn(generator, LIMIT / 2 * 3, |pair| within_limit(crate_from_offset(pair, grid)))
 }
 
 /// A pair with an even sum whose tile is within the limit, by the same halves.
-fn doubled_pair(generator: &mut Generator, turn: usize, mode: u32) -> [i32; 2] {
+fn any_doubled_pair(generator: &mut Generator, turn: usize, mode: u32) -> [i32; 2] {
     if turn / 4 % 2 == 0 {
-        return doubled_of(tile(generator, turn), mode);
+        return crate_to_doubled(tile(generator, turn), mode);
     }
     let even = |[column, row]: [i32; 2]| (column + row) % 2 == 0;
-    drawn(generator, LIMIT * 3, |pair| even(pair) && within_limit(from_doubled_of(pair, mode)))
+    drawn(generator, LIMIT * 3, |pair| even(pair) && within_limit(crate_from_doubled(pair, mode)))
 }
 
 /// Draws pairs until one is as wanted.

@@ -37,8 +37,8 @@ pub fn compare(tally: &mut Tally) {
     }
 }
 
-/// A ride from any tile of a map, of which each fifth is barred. The kinds of ground are the oracle's, which go by turns of nine, so
-/// the budgets go by turns of ten: most are small, since the crate is asked for each smaller one too, and some are as large as can be.
+/// A ride from any tile of a map, which is barred in one of five rides whatever the ground. The kinds of ground are the oracle's, which
+/// go by turns of nine, so the budgets go by turns of ten: most are small, since the crate is asked for each smaller one too.
 fn ride(generator: &mut Generator, centre: Hex, turn: usize) -> Ride {
     let radius = generator.between(0, LARGEST) as u32;
     let budget = match turn % 10 {
