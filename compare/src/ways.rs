@@ -16,9 +16,10 @@ use crate::sheet::NO_OPEN_PATH;
 use crate::tally::{Tally, difference};
 use hexx::Hex;
 
-/// How many journeys are asked, over maps of the radii from 0 to the largest here.
-const JOURNEYS: usize = 5_500;
-const LARGEST: i32 = 12;
+/// How many journeys are asked, and the largest radii of their maps, by turns. The crate is asked once for each tile of a map, so that
+/// the large maps take most of the time.
+const JOURNEYS: usize = 6_000;
+const LARGEST: [i32; 3] = [6, 6, 12];
 
 /// What an entry of the ranks holds before a call, the rank of a tile from which no route leads, and by what a rank's cost is multiplied.
 const UNRANKED: u64 = 7_777_777_777_777_777_777;
@@ -47,7 +48,7 @@ pub fn compare(tally: &mut Tally) {
 /// A journey between any two tiles of a map, and the map's tiles by index. The kinds of ground are the oracle's; those of odd turns have
 /// efforts of 0.
 fn journey(generator: &mut Generator, centre: Hex, turn: usize) -> (Journey, Vec<Hex>) {
-    let radius = generator.between(0, LARGEST) as u32;
+    let radius = generator.between(0, LARGEST[turn % LARGEST.len()]) as u32;
     let area = Hex::range_count(radius);
     let tiles: Vec<Hex> = (0..area).map(|index| centre + Hex::from_hexmod_coordinates(index, radius)).collect();
     let mut any = || tiles[generator.between(0, area as i32 - 1) as usize];
