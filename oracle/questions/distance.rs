@@ -12,7 +12,7 @@ const BOTTOM: i32 = i32::MIN;
 
 /// Says whether every difference that the crate takes is a signed 32-bit number,
 /// so that its answer is exact.
-fn fits(a: Hex, b: Hex) -> bool {
+pub fn fits(a: Hex, b: Hex) -> bool {
     let dx = i64::from(a.x) - i64::from(b.x);
     let dy = i64::from(a.y) - i64::from(b.y);
     [dx, dy, dx + dy].iter().all(|&d| i32::try_from(d).is_ok())

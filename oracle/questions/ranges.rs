@@ -59,7 +59,7 @@ const STEEP: usize = 396;
 /// The ground of a ride over the given tiles. What it is like goes by turns: flat, gentle,
 /// rough or steep, with some tiles barred, with half of them barred, with a wall across the map,
 /// with a wall that has a gap, a corridor from the start, and with tiles too dear for every budget.
-fn ground(generator: &mut Generator, turn: usize, tiles: &[Hex], start: Hex) -> Vec<u16> {
+pub fn ground(generator: &mut Generator, turn: usize, tiles: &[Hex], start: Hex) -> Vec<u16> {
     let wall = tiles[generator.between(0, tiles.len() as i32 - 1) as usize].y;
     let gap = tiles[generator.between(0, tiles.len() as i32 - 1) as usize];
     let corridor = corridor(generator, tiles, start);
@@ -133,7 +133,7 @@ fn ride(generator: &mut Generator, centre: Hex, turn: usize) -> Ride {
 /// A copy of a right table that is not right. The damage goes by turns: one too high, one too
 /// low, no way where there is one, a number where there is no way, the start not 0, and zeros
 /// throughout. Where a turn would leave the table as it is, its start is made 1.
-fn damaged(generator: &mut Generator, turn: usize, ride: &Ride, totals: &[u32]) -> Totals {
+pub fn damaged(generator: &mut Generator, turn: usize, ride: &Ride, totals: &[u32]) -> Totals {
     let start = ride
         .tiles()
         .iter()

@@ -27,15 +27,15 @@ const STEPS: [Hex; 6] = [
 ];
 
 /// A rank as its cost and its steps, or none where no route leads to the end.
-type Rank = Option<(u64, u64)>;
+pub type Rank = Option<(u64, u64)>;
 
 /// A map with its efforts by index, and the two ends of a route.
-struct Journey {
-    centre: Hex,
-    radius: u32,
-    start: Hex,
-    end: Hex,
-    efforts: Vec<u16>,
+pub struct Journey {
+    pub centre: Hex,
+    pub radius: u32,
+    pub start: Hex,
+    pub end: Hex,
+    pub efforts: Vec<u16>,
 }
 
 impl Journey {
@@ -68,7 +68,7 @@ impl Journey {
     }
 
     /// The tiles of the best route: from the start on, the first direction that makes up the rank.
-    fn best(&self, ranks: &[Rank]) -> Option<Vec<Hex>> {
+    pub fn best(&self, ranks: &[Rank]) -> Option<Vec<Hex>> {
         let efforts = self.by_tile(&self.efforts);
         let ranks = self.by_tile(ranks);
         let mut tile = self.start;
@@ -86,11 +86,17 @@ impl Journey {
         Some(route)
     }
 
-    /// The crate's route. Its closure is asked for the tile that is entered, and for the two ends,
-    /// which must be open; the search itself adds nothing to what it answers.
+    /// The crate's route.
     fn of_crate(&self) -> Option<Vec<Hex>> {
+        self.of_crate_at(|effort| effort)
+    }
+
+    /// The crate's route where an effort has a price. Its closure is asked for the tile that is
+    /// entered, and for the two ends, which must be open; the search itself adds nothing to what
+    /// it answers.
+    pub fn of_crate_at(&self, price: impl Fn(u32) -> u32) -> Option<Vec<Hex>> {
         let efforts = self.by_tile(&self.efforts);
-        let open = |tile| Self::open(&efforts, tile).map(|effort| effort as u32);
+        let open = |tile| Self::open(&efforts, tile).map(|effort| price(effort as u32));
         let route = a_star(self.start, self.end, |_, to| open(to))?;
         let joined = route.windows(2).all(|pair| STEPS.contains(&(pair[1] - pair[0])));
         if route.first() != Some(&self.start) || route.last() != Some(&self.end) || !joined {
@@ -100,7 +106,7 @@ impl Journey {
     }
 
     /// The cost of a route: the efforts of the tiles after the start.
-    fn cost(&self, route: &[Hex]) -> u64 {
+    pub fn cost(&self, route: &[Hex]) -> u64 {
         let efforts = self.by_tile(&self.efforts);
         let entered = route[1..].iter().map(|&tile| Self::open(&efforts, tile));
         entered.sum::<Option<u64>>().unwrap_or_else(|| stop("a route enters a barred tile"))
@@ -161,7 +167,7 @@ const JOURNEYS: usize = 6_000;
 
 /// The efforts of a journey's tiles, by turns: flat, gentle, rough, gentle with barred tiles,
 /// mostly barred, and the same five with efforts of 0 among them.
-fn ground(generator: &mut Generator, turn: usize, area: usize) -> Vec<u16> {
+pub fn ground(generator: &mut Generator, turn: usize, area: usize) -> Vec<u16> {
     let least = if turn % 2 == 0 { 1 } else { 0 };
     let mut effort = || {
         let gentle = generator.between(least, least + 3) as u16;
