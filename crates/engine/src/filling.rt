@@ -8,7 +8,6 @@ use storage::Map;
 ghost use mathlib.Core.Path.{_≡_};
 ghost use Prim.Native.Nat.{_*_, _≤_, min};
 ghost use lib.ListN.{length};
-ghost use Rattle.routes.specs.Ranks.{noRank};
 ghost use Rattle.hex.specs.Limits.{noWay};
 ghost use Rattle.engine.specs.Filling.{fits};
 ghost use Rattle.engine.specs.Settling.{totals};
@@ -68,18 +67,6 @@ pub(crate) fn write_ranks(tree: &[u64], table: &mut [u64])
     let mut i: usize = 0;
     while i < a {
         table[i] = rank_of(total_of(tree[a + i]));
-        i += 1;
-    }
-}
-
-// Writes that no tile has a route.
-pub(crate) fn write_no_ranks(table: &mut [u64])
-    ensures { λ _. ⌜ Written (length (now (table .entry))) (λ t. noRank) (length (now (table .entry))) (now (table .exit)) ⌝ }
-{
-    let a = table.len();
-    let mut i: usize = 0;
-    while i < a {
-        table[i] = limits::NO_RANK;
         i += 1;
     }
 }

@@ -11,9 +11,9 @@ mod steps;
 mod turns;
 mod winners;
 
-use crate::leaves::LARGEST_TOTAL;
+use crate::leaves::UNREACHED;
 use crate::steps::Table;
-use hex::limits;
+use crate::turns::ROOM;
 use storage::Index;
 use storage::Map;
 
@@ -24,7 +24,15 @@ pub fn fill_totals(map: Map, efforts: &[u16], start: Index, budget: u32, totals:
     if !filling::fit(map, start, efforts.len(), totals.len()) {
         return;
     }
-    let tree = turns::settle(Table::Totals, map, efforts, start.0 as usize, budget as u64);
+    let mut tree = [UNREACHED; ROOM];
+    turns::settle(
+        &mut tree,
+        Table::Totals,
+        map,
+        efforts,
+        start.0 as usize,
+        budget as u64,
+    );
     filling::write_totals(&tree, totals);
 }
 
@@ -35,11 +43,7 @@ pub fn fill_ranks(map: Map, efforts: &[u16], end: Index, ranks: &mut [u64])
     if !filling::fit(map, end, efforts.len(), ranks.len()) {
         return;
     }
-    let e = end.0 as usize;
-    if efforts[e] >= limits::BARRED {
-        filling::write_no_ranks(ranks);
-        return;
-    }
-    let tree = turns::settle(Table::Ranks, map, efforts, e, LARGEST_TOTAL);
+    let mut tree = [UNREACHED; ROOM];
+    turns::settle_ranks(&mut tree, map, efforts, end.0 as usize);
     filling::write_ranks(&tree, ranks);
 }

@@ -12,11 +12,11 @@ use Rattle.engine.proofs.turns.turns.Statement.{statement}
 use Rattle.engine.proofs.turns.turns.Tie as tie
 
 abbrev Inv-loop : tie.InvT-loop
-Inv-loop table map efforts tree₀ a budget tree =
+Inv-loop tree₀ table map efforts a budget tree =
     Heap a tree × (length tree ≡ length tree₀) × ((G : Land) → Paved G a (toOf table map) (costOf table map efforts) → Goes G budget a tree₀ tree (live a tree₀) (live a tree))
 
 abbrev μ-loop : tie.MeasureT-loop
-μ-loop table map efforts tree₀ a budget tree = work a tree
+μ-loop tree₀ table map efforts a budget tree = work a tree
 
 loop-holds : tie.Need-loop-holds Inv-loop μ-loop
 loop-holds c = (c .before .before .pre .0, refl, λ G paved s g. g)
