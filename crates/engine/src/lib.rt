@@ -2,7 +2,6 @@
 
 ghost use Rattle.engine.specs.Filling.{FillsTotals, FillsRanks};
 
-mod beside;
 mod costs;
 mod filling;
 mod leaves;

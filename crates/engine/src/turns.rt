@@ -1,5 +1,6 @@
 // Turn by turn the open tile with the smallest total is settled, until no tile is open.
 
+use crate::costs::costs_out;
 use crate::leaves::LARGEST_TOTAL;
 use crate::leaves::SHUT;
 use crate::leaves::closed_leaf;
@@ -8,7 +9,7 @@ use crate::leaves::open_leaf;
 use crate::leaves::total_of;
 use crate::settling::look_around;
 use crate::steps::Table;
-use crate::steps::steps_out;
+use crate::steps::tiles_out;
 use crate::winners::set_leaf;
 use hex::limits;
 use storage::Map;
@@ -39,9 +40,8 @@ fn turn(tree: &mut [u64], table: Table, map: Map, efforts: &[u16], a: usize, bud
     let top = tree[1];
     let u = index_of(top);
     let base = total_of(top);
-    let out = steps_out(table, map, efforts, u);
-    let to = out.to;
-    let costs = out.costs;
+    let to = tiles_out(table, map, u);
+    let costs = costs_out(table, efforts, efforts[u], to);
     look_around(tree, a, base, to, costs, budget);
     set_leaf(tree, a, u, closed_leaf(base));
 }
