@@ -6,7 +6,7 @@ use hex::limits;
 use storage::Index;
 use storage::Map;
 ghost use mathlib.Core.Path.{_≡_};
-ghost use Prim.Native.Nat.{_*_, _≤_, min};
+ghost use Prim.Native.Nat.{_+_, _*_, _<_, _≤_, min};
 ghost use lib.ListN.{length};
 ghost use Rattle.hex.specs.Limits.{noWay};
 ghost use Rattle.engine.specs.Filling.{fits};
@@ -21,6 +21,14 @@ pub(crate) fn fit(map: Map, start: Index, efforts: usize, table: usize) -> bool
         return false;
     }
     terrain::lengths_fit(map, efforts, table)
+}
+
+// The total of tile t, one of a tiles.
+fn total_at(tree: &[u64], a: usize, t: usize) -> u64
+    requires { ⌜ a + t < length (now tree) ⌝ }
+    ensures { λ r. ⌜ r ≡ totals a (now (tree .entry)) t ⌝ }
+{
+    total_of(tree[a + t])
 }
 
 // A total as an entry: the mark for no way is the largest that an entry can hold.
@@ -42,7 +50,7 @@ pub(crate) fn write_totals(tree: &[u64], table: &mut [u32])
     let a = table.len();
     let mut i: usize = 0;
     while i < a {
-        table[i] = entry_of(total_of(tree[a + i]));
+        table[i] = entry_of(total_at(tree, a, i));
         i += 1;
     }
 }
@@ -66,7 +74,7 @@ pub(crate) fn write_ranks(tree: &[u64], table: &mut [u64])
     let a = table.len();
     let mut i: usize = 0;
     while i < a {
-        table[i] = rank_of(total_of(tree[a + i]));
+        table[i] = rank_of(total_at(tree, a, i));
         i += 1;
     }
 }
