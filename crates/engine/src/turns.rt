@@ -29,14 +29,14 @@ const RADIUS: usize = limits::RADIUS as usize;
 pub(crate) const ROOM: usize = 2 * (3 * RADIUS * (RADIUS + 1) + 1);
 
 // Settles the tile at the root, which is open: looks at the steps out of it, and closes it.
-fn turn(tree: &mut [u64], table: Table, map: Map, efforts: &[u16], a: usize, budget: u64)
-    requires { ⌜ Heap a (now tree) ⌝ }
+fn turn(tree: &mut [u64], table: Table, map: Map, efforts: &[u16], budget: u64)
+    requires { ⌜ Heap (length (now efforts)) (now tree) ⌝ }
     requires { ⌜ budget ≤ largestTotal ⌝ }
     requires { ⌜ getD (now tree) 1 0 < shut ⌝ }
     requires { ⌜ OfMap map (now efforts) ⌝ }
-    requires { ⌜ length (now efforts) ≡ a ⌝ }
-    ensures { λ _. ⌜ Turned (toOf table map) (costOf table map (now (efforts .entry))) a budget (now (tree .entry)) (now (tree .exit)) ⌝ }
+    ensures { λ _. ⌜ Turned (toOf table map) (costOf table map (now (efforts .entry))) (length (now (efforts .entry))) budget (now (tree .entry)) (now (tree .exit)) ⌝ }
 {
+    let a = efforts.len();
     let top = tree[1];
     let u = index_of(top);
     let base = total_of(top);
@@ -47,15 +47,14 @@ fn turn(tree: &mut [u64], table: Table, map: Map, efforts: &[u16], a: usize, bud
 }
 
 // Takes turns while the root is open.
-fn turns(tree: &mut [u64], table: Table, map: Map, efforts: &[u16], a: usize, budget: u64)
-    requires { ⌜ Heap a (now tree) ⌝ }
+fn turns(tree: &mut [u64], table: Table, map: Map, efforts: &[u16], budget: u64)
+    requires { ⌜ Heap (length (now efforts)) (now tree) ⌝ }
     requires { ⌜ budget ≤ largestTotal ⌝ }
     requires { ⌜ OfMap map (now efforts) ⌝ }
-    requires { ⌜ length (now efforts) ≡ a ⌝ }
-    ensures { λ _. ⌜ Finished (toOf table map) (costOf table map (now (efforts .entry))) a budget (now (tree .entry)) (now (tree .exit)) ⌝ }
+    ensures { λ _. ⌜ Finished (toOf table map) (costOf table map (now (efforts .entry))) (length (now (efforts .entry))) budget (now (tree .entry)) (now (tree .exit)) ⌝ }
 {
     while tree[1] < SHUT {
-        turn(tree, table, map, efforts, a, budget);
+        turn(tree, table, map, efforts, budget);
     }
 }
 
@@ -74,9 +73,8 @@ pub(crate) fn settle(
     requires { ⌜ now tree ≡ blank ⌝ }
     ensures { λ _. ⌜ Settles (toOf table map) (costOf table map (now (efforts .entry))) (length (now (efforts .entry))) budget start (now (tree .exit)) ⌝ }
 {
-    let a = efforts.len();
-    set_leaf(tree, a, start, open_leaf(0, start));
-    turns(tree, table, map, efforts, a, budget);
+    set_leaf(tree, efforts.len(), start, open_leaf(0, start));
+    turns(tree, table, map, efforts, budget);
 }
 
 // The same for the ranks of an end. Where the end is barred, the tree stays blank: no tile has a route.

@@ -1,5 +1,4 @@
 -- `settle` meets its contract: the start is the one open tile at first, and in the end no tile is open.
-use mathlib.Core.Path.{refl}
 use denote.Ref.{now}
 use lib.ListN.{length}
 use Prim.Native.Nat.{_≤_}
@@ -35,7 +34,7 @@ turns-requires c κs =
     let l = c .before .before .before in
     let k = l .before .before .before .before .before in
     let p = k .pre .1 in
-    (heap-begun _ _ (p .1 .1) (few k) _ (p .0) _ (put l), (p .1 .0, (k .pre .0, refl)))
+    (heap-begun _ _ (p .1 .1) (few k) _ (p .0) _ (put l), (p .1 .0, k .pre .0))
 
 same-length : tie.Need-same-length
 same-length c = search needs

@@ -3,7 +3,7 @@ use mathlib.Core.Path.{_≡_, ap, _∙_}
 use Prim.Native.Nat.{ℕ, _<_}
 use denote.Ref.{now}
 use native.Mathlib.Omega.{arith}
-use lib.ListN.{getD}
+use lib.ListN.{length, getD}
 use borrow.Author.Needs.{needs}
 use Rattle.engine.specs.Steps.{effortAt, costBy, toOf, costOf}
 use Rattle.engine.proofs.Heaps.{root-open, Open}
@@ -12,10 +12,10 @@ use Rattle.engine.proofs.turns.turn.Statement.{statement}
 use Rattle.engine.proofs.turns.turn.Tie as tie
 
 -- The tile at the root.
-top : (c : tie.After-total-of) → let x = c .before .before .before .before .before .args in Open (x .a) (now (x .tree)) (c .before .index-of .result) (c .total-of .result)
+top : (c : tie.After-total-of) → let x = c .before .before .before .before .before .args in Open (length (now (x .efforts))) (now (x .tree)) (c .before .index-of .result) (c .total-of .result)
 top c =
     let k = c .before .before .before .before .before in
-    root-open (k .args .a) _ _ (now (k .args .tree)) (k .pre .0) (k .pre .1 .1 .0) (c .before .index-of .ensures) (c .total-of .ensures)
+    root-open _ _ _ (now (k .args .tree)) (k .pre .0) (k .pre .1 .1 .0) (c .before .index-of .ensures) (c .total-of .ensures)
 
 slice-read-top : tie.Need-slice-read-top
 slice-read-top c = search needs
@@ -28,16 +28,14 @@ total-of-requires c κs = search needs
 
 tiles-out-requires : tie.Need-tiles-out-requires
 tiles-out-requires c κs =
-    let p = c .before .before .before .before .before .pre .1 .1 .1 in
-    (p .0 .fine, omega (arith, p .0 .size, p .1, top c .on))
+    let m = c .before .before .before .before .before .pre .1 .1 .1 in
+    (m .fine, omega (arith, m .size, top c .on))
 
 mul-costs-out : tie.Need-mul-costs-out
 mul-costs-out c = search needs
 
 shared-slice-read-costs-out : tie.Need-shared-slice-read-costs-out
-shared-slice-read-costs-out c =
-    let l = c .before .before in
-    omega (arith, l .before .before .before .before .before .pre .1 .1 .1 .1, top l .on)
+shared-slice-read-costs-out c = omega (arith, top (c .before .before) .on)
 
 costs-out-requires : tie.Need-costs-out-requires
 costs-out-requires c κs = search needs
@@ -80,7 +78,7 @@ returns c =
     let t = o .before .before in
     let l = t .before in
     let x = l .before .before .before .before .before .args in
-    turned (x .a) _ _ (now (x .tree)) (k .look-around .last .0) (q .set-leaf .last .0) (top l) (k .look-around .ensures .0) (rw (q .before .closed-leaf .ensures) at (q .set-leaf .ensures))
+    turned _ _ _ (now (x .tree)) (k .look-around .last .0) (q .set-leaf .last .0) (top l) (k .look-around .ensures .0) (rw (q .before .closed-leaf .ensures) at (q .set-leaf .ensures))
     (toOf (x .table) (x .map)) (costOf (x .table) (x .map) (now (x .efforts))) (x .budget) (t .tiles-out .result) (o .costs-out .result) (t .tiles-out .ensures) (costs-are o) (k .look-around .ensures .1)
 
 pub turn-spec : {M : Type 1} → statement M
