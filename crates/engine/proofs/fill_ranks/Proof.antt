@@ -5,7 +5,6 @@ use denote.Ref.{now}
 use native.Mathlib.Omega.{arith}
 use lib.ListN.{length}
 use borrow.Author.Needs.{needs}
-use borrow.Author.Tests.{not-true, not-false}
 use Rattle.storage.proofs.Maps.{fine, area-small}
 use Rattle.engine.specs.Filling.{fits}
 use Rattle.engine.specs.Trees.{blank}
@@ -17,13 +16,10 @@ use Rattle.engine.proofs.fill_ranks.Tie as tie
 fit-requires : tie.Need-fit-requires
 fit-requires c κs = search needs
 
-returns : tie.Need-returns
-returns c = leaves-ranks _ _ _ _ (sym (c .before .fit .ensures) ∙ not-true _ (c .if1 .taken))
-
 -- What is known past the test.
-module _ (c : tie.Else1) where
+module _ (c : tie.Then1) where
   pub passed : let x = c .before .before .before .before .args in fits (x .map) (x .end .0) (length (now (x .efforts))) (length (now (x .ranks))) ≡ true
-  passed = sym (c .before .fit .ensures) ∙ not-false _ (c .if1 .left)
+  passed = sym (c .before .fit .ensures) ∙ c .if1 .taken
 
   pub known : let x = c .before .before .before .before .args in Fits (x .map) (x .end .0) (length (now (x .efforts))) (length (now (x .ranks)))
   known = fits-is _ _ _ _ passed
@@ -51,23 +47,26 @@ write-ranks-requires c κs =
 same-length : tie.Need-same-length
 same-length c = search needs
 
-returns-2 : tie.Need-returns-2
-returns-2 c =
+returns : tie.Need-returns
+returns c =
     let w = c .before .before in
     let s = w .before .before .before .before in
     let e = s .before .before .before in
     fills-ranks _ _ _ _ (known e) (passed e) (s .settle-ranks .last .0) _ (s .settle-ranks .ensures) (w .write-ranks .ensures)
+
+returns-2 : tie.Need-returns-2
+returns-2 c = leaves-ranks _ _ _ _ (sym (c .before .fit .ensures) ∙ c .if1 .left)
 
 pub fill-ranks-spec : {M : Type 1} → statement M
 fill-ranks-spec =
     tie.close
     (tie.spec
     fit-requires
-    returns
     slice-aggregate-settle-ranks
     cast-settle-ranks
     settle-ranks-requires
     slice-aggregate-write-ranks
     write-ranks-requires
     same-length
+    returns
     returns-2)

@@ -5,7 +5,6 @@ use denote.Ref.{now}
 use native.Mathlib.Omega.{arith}
 use lib.ListN.{length}
 use borrow.Author.Needs.{needs}
-use borrow.Author.Tests.{not-true, not-false}
 use Rattle.storage.proofs.Maps.{fine, area-small}
 use Rattle.engine.specs.Filling.{fits}
 use Rattle.engine.specs.Trees.{blank}
@@ -16,22 +15,19 @@ use Rattle.engine.proofs.fill_totals.Tie as tie
 fit-requires : tie.Need-fit-requires
 fit-requires c κs = search needs
 
-returns : tie.Need-returns
-returns c = leaves-it _ _ _ _ _ (sym (c .before .fit .ensures) ∙ not-true _ (c .if1 .taken))
-
 -- What is known past the test.
-module _ (c : tie.Else1) where
+module _ (c : tie.Then1) where
   pub passed : let x = c .before .before .before .before .args in fits (x .map) (x .start .0) (length (now (x .efforts))) (length (now (x .totals))) ≡ true
-  passed = sym (c .before .fit .ensures) ∙ not-false _ (c .if1 .left)
+  passed = sym (c .before .fit .ensures) ∙ c .if1 .taken
 
   pub known : let x = c .before .before .before .before .args in Fits (x .map) (x .start .0) (length (now (x .efforts))) (length (now (x .totals)))
   known = fits-is _ _ _ _ passed
 
+cast-s : tie.Need-cast-s
+cast-s c = search needs
+
 slice-aggregate-settle : tie.Need-slice-aggregate-settle
 slice-aggregate-settle c = search needs
-
-cast-settle : tie.Need-cast-settle
-cast-settle c = search needs
 
 settle-requires : tie.Need-settle-requires
 unfolding blank
@@ -51,23 +47,26 @@ write-totals-requires c κs =
 same-length : tie.Need-same-length
 same-length c = search needs
 
-returns-2 : tie.Need-returns-2
-returns-2 c =
+returns : tie.Need-returns
+returns c =
     let w = c .before .before in
     let s = w .before .before .before .before in
     let e = s .before .before .before in
     fills _ _ _ _ _ (known e) (λ i. omega (arith, e .before .before .before .shared-slice-known .given i)) (s .settle .last .0) _ (s .settle .ensures) (w .write-totals .ensures) (passed e)
+
+returns-2 : tie.Need-returns-2
+returns-2 c = leaves-it _ _ _ _ _ (sym (c .before .fit .ensures) ∙ c .if1 .left)
 
 pub fill-totals-spec : {M : Type 1} → statement M
 fill-totals-spec =
     tie.close
     (tie.spec
     fit-requires
-    returns
+    cast-s
     slice-aggregate-settle
-    cast-settle
     settle-requires
     slice-aggregate-write-totals
     write-totals-requires
     same-length
+    returns
     returns-2)

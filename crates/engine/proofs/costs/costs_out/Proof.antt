@@ -1,7 +1,6 @@
 -- `costs_out` meets its contract: the costs below d are laid.
 use mathlib.Core.Path.{_≡_, ap, _∙_}
 use Prim.Native.Nat.{_-_, _≤_}
-use denote.Ref.{now}
 use native.Mathlib.Omega.{arith}
 use lib.ListN.{getD}
 use Rattle.engine.specs.Steps.{effortAt, costBy, Laid}

@@ -1,7 +1,6 @@
 -- `write_ranks` meets its contract: before each turn the ranks of the tiles passed stand in the table.
 use mathlib.Core.Path.{ap, _∙_}
 use Prim.Native.Nat.{_-_}
-use native.Mathlib.Omega.{arith}
 use borrow.Author.Needs.{needs}
 use lib.ListN.{length}
 use Rattle.engine.specs.Settling.{totals}

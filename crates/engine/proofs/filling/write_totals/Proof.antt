@@ -1,7 +1,6 @@
 -- `write_totals` meets its contract: before each turn the totals of the tiles passed stand in the table.
 use mathlib.Core.Path.{ap, _∙_}
 use Prim.Native.Nat.{ℕ, _-_, min}
-use native.Mathlib.Omega.{arith}
 use borrow.Author.Needs.{needs}
 use lib.ListN.{length}
 use Rattle.hex.specs.Limits.{noWay}
