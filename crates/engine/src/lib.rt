@@ -10,9 +10,9 @@ mod steps;
 mod turns;
 mod winners;
 
+use crate::leaves::ROOM;
 use crate::leaves::UNREACHED;
 use crate::steps::Table;
-use crate::turns::ROOM;
 use storage::Index;
 use storage::Map;
 

@@ -22,12 +22,6 @@ ghost use Rattle.engine.specs.Steps.{toOf, costOf};
 ghost use Rattle.engine.specs.Turns.{OfMap, Turned, Finished, Settles};
 ghost use Rattle.engine.specs.Filling.{TellsRanks};
 
-// The largest radius of a map.
-const RADIUS: usize = limits::RADIUS as usize;
-
-// A tree over the largest map has twice as many nodes as that map has tiles.
-pub(crate) const ROOM: usize = 2 * (3 * RADIUS * (RADIUS + 1) + 1);
-
 // Settles the tile at the root, which is open: looks at the steps out of it, and closes it.
 fn turn(tree: &mut [u64], table: Table, map: Map, efforts: &[u16], budget: u64)
     requires { ⌜ Heap (length (now efforts)) (now tree) ⌝ }
