@@ -1,4 +1,5 @@
 -- `settle` meets its contract: the start is the one open tile at first, and in the end no tile is open.
+use mathlib.Core.Path.{_≡_}
 use denote.Ref.{now}
 use lib.ListN.{length}
 use Prim.Native.Nat.{_≤_}
@@ -27,7 +28,10 @@ set-leaf-requires c κs =
 
 -- The start's leaf was set.
 put : (c : tie.After-set-leaf) → let x = c .before .before .before .before .before .args in Put (length (now (x .efforts))) (x .start) (openLeaf 0 (x .start)) (now (x .tree)) (c .set-leaf .last .0)
-put c = rw (c .before .open-leaf .ensures) at (c .set-leaf .ensures)
+put c =
+    let o = c .before .open-leaf in
+    let e : o .result ≡ openLeaf 0 (c .before .before .before .before .before .args .start) = omega (arith, o .ensures) in
+    rw e at (c .set-leaf .ensures)
 
 turns-requires : tie.Need-turns-requires
 turns-requires c κs =

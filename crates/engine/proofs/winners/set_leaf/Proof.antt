@@ -81,7 +81,7 @@ returns : tie.Need-returns Inv-loop μ-loop
 returns c =
     let m = c .before .before in
     let l = m .before .before .before in
-    ended l (but-none (l .before .before .args .a) (l .loop .k) (l .loop .tree) (l .loop .inv .5) (c .if1 .taken ∙ wins m))
+    ended l (but-none (l .before .before .args .a) (l .loop .k) (l .loop .tree) (l .loop .inv .5) (omega (arith, c .if1 .taken, wins m)))
 
 same-length : tie.Need-same-length Inv-loop μ-loop
 same-length c = returns c .size
