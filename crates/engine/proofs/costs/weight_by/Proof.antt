@@ -27,7 +27,7 @@ returns-3 : tie.Need-returns-3
 unfolding weightBy
 returns-3 c =
     let x = c .before .before .args in
-    (rw (lt-ltb (x .entered) barred (omega (arith, c .before .if1 .left)), lt-ltb (x .left) barred (omega (arith, c .if2 .left))), omega (arith, c .if2 .left))
+    (rw (lt-ltb (x .entered) barred (omega (arith, c .before .if1 .left)), lt-ltb (x .left) barred (omega (arith, c .if2 .left))) (omega arith), omega (arith, c .if2 .left))
 
 pub weight-by-spec : {M : Type 1} → statement M
 weight-by-spec = tie.close (tie.spec returns returns-2 mul-result add-result returns-3)
