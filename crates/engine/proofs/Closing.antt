@@ -4,14 +4,14 @@ use mathlib.Core.List.{List}
 use Prim.Native.Nat.{ℕ, _+_, _≤_, _<_}
 use native.Mathlib.Decide.{ℕ-discrete}
 use native.Mathlib.Omega.{arith}
-use lib.ListN.{getD, replicate, getD-replicate}
+use lib.ListN.{getD, getD-replicate}
 use Rattle.paths.specs.Lands.{Land}
 use Rattle.paths.specs.Tables.{Right}
 use Rattle.paths.specs.Engines.{Going}
 use Rattle.paths.proofs.Settling.{settled-right}
 use Rattle.paths.proofs.Lowering.{going-begin, going-less, going-settled}
 use Rattle.engine.specs.Leaves.{shut, largestArea, room, unreached, openLeaf, closedLeaf, totalOf}
-use Rattle.engine.specs.Trees.{leaf, Put, Heap}
+use Rattle.engine.specs.Trees.{leaf, Put, Heap, blank}
 use Rattle.engine.specs.Settling.{totals, live, pend, work, Goes, Kept, LookedAround}
 use Rattle.engine.specs.Turns.{Paved, Turned}
 use Rattle.engine.proofs.Totals.{total-above, open-total, closed-total, weight-below, weight-above}
@@ -70,14 +70,16 @@ module _ (a u base : ℕ) (H H₁ H₂ : List ℕ) (o : Open a H u base) (k : Ke
       }
 
 -- The start: no tile is reached but s, which is open.
-module _ (a : ℕ) (H : List ℕ) (is : H ≡ replicate room unreached) (few : a ≤ largestArea) (some : 0 < a) where
-  at-first : (t : ℕ) → t < a → leaf a H t ≡ unreached
+module _ (a : ℕ) (H : List ℕ) (is : H ≡ blank) (few : a ≤ largestArea) (s : ℕ) (hs : s < a) where
+  pub at-first : (t : ℕ) → t < a → leaf a H t ≡ unreached
+  unfolding blank
   at-first t h = ap (λ (L : List ℕ). getD L (a + t) 0) is ∙ getD-replicate room (a + t) unreached 0 (omega arith)
 
   pub heap-blank : Heap a H
-  heap-blank = record { winners = rw is (winners-alike a room unreached some (omega arith) (omega arith)); keyed = λ i h o. absurd (omega (arith, at-first i h)) }
+  unfolding blank
+  heap-blank = record { winners = rw is (winners-alike a room unreached (omega arith) (omega arith) (omega arith)); keyed = λ i h o. absurd (omega (arith, at-first i h)) }
 
-  module _ (s : ℕ) (H′ : List ℕ) (hs : s < a) (p : Put a s (openLeaf 0 s) H H′) where
+  module _ (H′ : List ℕ) (p : Put a s (openLeaf 0 s) H H′) where
     pub heap-begun : Heap a H′
     heap-begun = heap-put a s (openLeaf 0 s) H H′ p heap-blank (λ l. omega arith)
 

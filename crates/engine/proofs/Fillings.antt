@@ -1,13 +1,12 @@
--- Laws of filling a table: when it is filled, what has been written, and that the totals that are written are right.
-use mathlib.Core.Path.{_≡_, refl, sym, ap, _∙_}
+-- Laws of filling a table: when it is filled, and that the totals that are written are right.
+use mathlib.Core.Path.{_≡_, refl, sym, _∙_}
 use mathlib.Core.Bool.{true, false, cond}
 use mathlib.Core.List.{List}
-use Prim.Native.Nat.{ℕ, _+_, _-_, _*_, _<_, _≤_, min}
+use Prim.Native.Nat.{ℕ, _-_, _*_, _<_, _≤_, min}
 use native.Mathlib.Decide.{ℕ-discrete, decLt}
 use native.Mathlib.Omega.{arith}
 use lib.Dec.{ltb}
-use lib.ListN.{length, getD, set, length-set}
-use lib.Seq.{getD-set-same, getD-set-other}
+use lib.ListN.{length, getD}
 use borrow.Author.Tests.{eq-eqb, lt-ltb, le-ltb, ltb-true}
 use Rattle.paths.specs.Tables.{at, Right, Capped}
 use Rattle.paths.proofs.PlainWords.{right-marked}
@@ -65,15 +64,6 @@ module _ (map : Map) (start efforts table : ℕ) where
   fits-of z e t h =
       let a = tiles-fine map z in
       sym (start-on (omega (arith, a, h))) ∙ sym (fit-by-table map efforts table (e ∙ sym a)) ∙ eq-eqb table (tilesOf map) (t ∙ sym a)
-
--- One entry more is written.
-pub written-next : (a : ℕ) (entry : ℕ → ℕ) (k x : ℕ) (table : List ℕ) → k < a → x ≡ entry k → Written a entry k table → Written a entry (k + 1) (set table k x)
-written-next a entry k x table h e w =
-    record { size = length-set table k x ∙ w .size; below = λ t l. go t l (ℕ-discrete t k) }
-  where
-    go : (t : ℕ) → t < k + 1 → Dec (t ≡ k) → getD (set table k x) t 0 ≡ entry t
-    go t l (yes p) = ap (λ (n : ℕ). getD (set table k x) n 0) p ∙ getD-set-same table k x 0 (omega (arith, w .size)) ∙ e ∙ ap entry (sym p)
-    go t l (no p) = getD-set-other table k t x 0 p ∙ w .below t (omega arith)
 
 -- A table in which all totals stand is right, with its own mark for no way: no least sum comes near either mark.
 module _ (map : Map) (E : List ℕ) (s b : ℕ) (H : List ℕ) (of : OfMap map E) (short : Efforts E) (hs : s < areaOf (map .radius)) (settles : Settles (toOf Table.Totals map) (costOf Table.Totals map E) (length E) b s H) where

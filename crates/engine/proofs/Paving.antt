@@ -20,7 +20,7 @@ use Rattle.terrain.specs.LandOfMap.{priceOf, against, landOf}
 use Rattle.terrain.proofs.Walks.{against-twice}
 use Rattle.engine.specs.Leaves.{noTotal}
 use Rattle.engine.specs.Settling.{Leads}
-use Rattle.engine.specs.Steps.{effortAt, weightOut, weightInto, toOf, costOf}
+use Rattle.engine.specs.Steps.{effortAt, weightBy, toOf, costOf}
 use Rattle.engine.specs.Turns.{OfMap, Paved}
 use Rattle.engine.specs.declared.steps.Table.{Table}
 use Rattle.engine.proofs.StepCosts.{effort-within}
@@ -58,14 +58,14 @@ module _ (map : Map) (E : List ℕ) (of : OfMap map E) where
   totals-paved = record { tiles = sym (of .size); mark = refl; leads = totals-leads }
 
   -- Ranks: a step of direction d into t comes from what is near by that direction, for it is walked the other way. It weighs the effort of the tile that it leaves.
-  weight-is : (u t d : ℕ) → nearIn map t d ≡ u → weight (groundOf map E) multiplier t d ≡ weightInto (weightOut (getD E u 0)) (getD E t 0)
-  unfolding weightOut weightInto
+  weight-is : (u t d : ℕ) → nearIn map t d ≡ u → weight (groundOf map E) multiplier t d ≡ weightBy (getD E u 0) (getD E t 0)
+  unfolding weightBy
   weight-is u t d e = ap (λ (x : ℕ). cond (ltb (getD E t 0) barred) (cond (ltb (getD E x 0) barred) (getD E x 0 * multiplier + 1) 0) 0) e
 
   ranks-leads : (u d : ℕ) → u < length E → d < 6 → Leads (rankLand map E) u d (toOf Table.Ranks map u d) (costOf Table.Ranks map E u d)
   ranks-leads u d h l =
       record {
-        only = λ y v st. let e = near y v st in (sym e, sym (st .price) ∙ weighs y (st .into) (st .from) ∙ ap (λ (t : ℕ). weightInto (weightOut (getD E u 0)) (effortAt E t)) (sym e));
+        only = λ y v st. let e = near y v st in (sym e, sym (st .price) ∙ weighs y (st .into) (st .from) ∙ ap (λ (t : ℕ). weightBy (getD E u 0) (effortAt E t)) (sym e));
         opens =
             λ below paid.
             let back = there-back u d on l below in
@@ -75,8 +75,8 @@ module _ (map : Map) (E : List ℕ) (of : OfMap map E) where
       on : u < areaOf (map .radius)
       on = omega (arith, of .size)
 
-      weighs : (t : ℕ) → t < areaOf (map .radius) → nearIn map t d ≡ u → weight (groundOf map E) multiplier t d ≡ weightInto (weightOut (getD E u 0)) (effortAt E t)
-      weighs t below e = weight-is u t d e ∙ ap (weightInto (weightOut (getD E u 0))) (effort-within E t 0 (omega (arith, of .size)))
+      weighs : (t : ℕ) → t < areaOf (map .radius) → nearIn map t d ≡ u → weight (groundOf map E) multiplier t d ≡ weightBy (getD E u 0) (effortAt E t)
+      weighs t below e = weight-is u t d e ∙ ap (weightBy (getD E u 0)) (effort-within E t 0 (omega (arith, of .size)))
 
       near : (y v : ℕ) → Step (rankLand map E) u d y v → nearIn map u (against d) ≡ y
       near y v st =

@@ -1,17 +1,15 @@
--- What a step costs, by the tests of the code, and six costs laid one by one.
+-- The effort of a tile, and six costs laid one by one.
 use mathlib.Core.Path.{_≡_, refl, sym, _∙_}
 use mathlib.Core.List.{List, [], _∷_}
-use Prim.Native.Nat.{ℕ, zero, suc, _+_, _*_, _≤_, _<_}
+use Prim.Native.Nat.{ℕ, zero, suc, _+_, _≤_, _<_}
 use native.Mathlib.Decide.{ℕ-discrete}
 use native.Mathlib.Nat.{not-suc-le-zero, le-of-suc-le-suc}
 use native.Mathlib.Omega.{arith}
 use lib.ListN.{length, getD, set, length-set, replicate, List·getD-eq-default}
 use lib.Seq.{getD-set-same, getD-set-other}
-use borrow.Author.Tests.{lt-ltb, le-ltb}
-use Rattle.routes.specs.Ranks.{multiplier}
 use Rattle.hex.specs.Limits.{barred}
 use Rattle.engine.specs.Leaves.{largestTotal}
-use Rattle.engine.specs.Steps.{effortAt, weightOut, weightInto, Laid}
+use Rattle.engine.specs.Steps.{effortAt, Laid}
 
 -- The effort of a tile, by whether there is such a tile. Within the list it does not matter what stands for an entry that is missing.
 pub effort-within : (E : List ℕ) (t x : ℕ) → t < length E → getD E t x ≡ effortAt E t
@@ -21,28 +19,6 @@ effort-within (e ∷ E) (suc t) x h = effort-within E t x (le-of-suc-le-suc h)
 
 pub effort-beyond : (E : List ℕ) (t : ℕ) → length E ≤ t → barred ≡ effortAt E t
 effort-beyond E t h = sym (List·getD-eq-default E barred h)
-
--- What a step weighs, by the two tests.
-module _ (effort : ℕ) where
-  pub weight-out-open : effort < barred → effort * multiplier + 1 ≡ weightOut effort
-  unfolding weightOut
-  weight-out-open h = rw (lt-ltb effort barred h)
-
-  pub weight-out-barred : barred ≤ effort → 0 ≡ weightOut effort
-  unfolding weightOut
-  weight-out-barred h = rw (le-ltb effort barred h)
-
-  pub weight-into-open : (weight : ℕ) → effort < barred → weight ≡ weightInto weight effort
-  unfolding weightInto
-  weight-into-open weight h = rw (lt-ltb effort barred h)
-
-  pub weight-into-barred : (weight : ℕ) → barred ≤ effort → 0 ≡ weightInto weight effort
-  unfolding weightInto
-  weight-into-barred weight h = rw (le-ltb effort barred h)
-
--- The same costs, said in other words.
-pub laid-like : {f g : ℕ → ℕ} {costs : List ℕ} → ((d : ℕ) → d < 6 → f d ≡ g d) → Laid f 6 costs → Laid g 6 costs
-laid-like same p = record { six = p .six; each = λ d h. p .each d h ∙ same d h; small = p .small }
 
 -- None is laid yet.
 pub laid-none : {cost : ℕ → ℕ} → Laid cost 0 (replicate 6 0)

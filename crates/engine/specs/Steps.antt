@@ -11,20 +11,20 @@ use Rattle.storage.specs.Leaves.{nearIn}
 use Rattle.storage.specs.declared.Map.{Map}
 use Rattle.terrain.specs.LandOfMap.{priceOf, against}
 use Rattle.engine.specs.Leaves.{largestTotal}
-use Rattle.engine.specs.declared.steps.Steps.{Steps}
 use Rattle.engine.specs.declared.steps.Table.{Table}
 
 -- The effort of tile t, by the efforts E. Where there is no such tile, nobody may enter.
 abbrev pub effortAt : List ℕ → ℕ → ℕ
 effortAt E t = getD E t barred
 
--- What it weighs in a rank to leave a tile of this effort, and 0, which bars the step, if it is barred.
-unfoldable pub weightOut : ℕ → ℕ
-weightOut effort = cond (ltb effort barred) (effort * multiplier + 1) 0
+-- What a step weighs in a rank, by the efforts of the tile that is left and of the tile that is entered; 0, which bars the step, if either is barred.
+unfoldable pub weightBy : ℕ → ℕ → ℕ
+weightBy left entered = cond (ltb entered barred) (cond (ltb left barred) (left * multiplier + 1) 0) 0
 
--- The same weight for a step into a tile of this effort, and 0 if that is barred.
-unfoldable pub weightInto : ℕ → ℕ → ℕ
-weightInto weight effort = cond (ltb effort barred) weight 0
+-- What a step costs, by the same efforts; 0 bars the step.
+abbrev pub costBy : Table → ℕ → ℕ → ℕ
+costBy Table.Totals left entered = priceOf entered
+costBy Table.Ranks left entered = weightBy left entered
 
 -- The tile that the step out of u by direction d leads to.
 abbrev pub toOf : Table → Map → ℕ → ℕ → ℕ
@@ -33,16 +33,10 @@ toOf Table.Ranks map u d = nearIn map u (against d)
 
 -- What it costs.
 abbrev pub costOf : Table → Map → List ℕ → ℕ → ℕ → ℕ
-costOf Table.Totals map E u d = priceOf (effortAt E (nearIn map u d))
-costOf Table.Ranks map E u d = weightInto (weightOut (getD E u 0)) (effortAt E (nearIn map u (against d)))
+costOf table map E u d = costBy table (getD E u 0) (effortAt E (toOf table map u d))
 
 -- The first k of six costs are laid.
 pub record Laid (cost : ℕ → ℕ) (k : ℕ) (costs : List ℕ) : Type 0 where
   pub six : length costs ≡ 6
   pub each : (d : ℕ) → d < k → getD costs d 0 ≡ cost d
   pub small : (d : ℕ) → d < k → getD costs d 0 ≤ largestTotal
-
--- The six steps out of a tile.
-pub record StepsOf (to cost : ℕ → ℕ) (steps : Steps) : Type 0 where
-  pub leads : (d : ℕ) → d < 6 → getD (steps .to) d 0 ≡ to d
-  pub costs : Laid cost 6 (steps .costs)

@@ -2,8 +2,8 @@
 use mathlib.Core.Path.{_≡_}
 use mathlib.Core.List.{List}
 use Prim.Native.Nat.{ℕ, _+_, _*_, _%_, _≤_, _<_, min}
-use lib.ListN.{length, getD}
-use Rattle.engine.specs.Leaves.{indices, shut}
+use lib.ListN.{length, getD, replicate}
+use Rattle.engine.specs.Leaves.{indices, shut, room, unreached}
 
 abbrev pub leaf : ℕ → List ℕ → ℕ → ℕ
 leaf a H i = getD H (a + i) 0
@@ -29,3 +29,7 @@ pub record Put (a i v : ℕ) (H H′ : List ℕ) : Type 0 where
 pub record Heap (a : ℕ) (H : List ℕ) : Type 0 where
   pub winners : Winners a H
   pub keyed : (i : ℕ) → i < a → leaf a H i < shut → leaf a H i % indices ≡ i
+
+-- The tree in which no tile has been reached.
+unfoldable pub blank : List ℕ
+blank = replicate room unreached

@@ -1,12 +1,12 @@
 // What steps cost: for totals the price of the tile that is entered; for ranks the effort of the tile that is left, and one step.
 
+use crate::steps::Table;
 use hex::limits;
 ghost use mathlib.Core.Path.{_≡_};
 ghost use Prim.Native.Nat.{_≤_};
 ghost use lib.ListN.{getD};
-ghost use Rattle.terrain.specs.LandOfMap.{priceOf};
 ghost use Rattle.engine.specs.Leaves.{largestTotal};
-ghost use Rattle.engine.specs.Steps.{effortAt, weightOut, weightInto, Laid};
+ghost use Rattle.engine.specs.Steps.{effortAt, weightBy, costBy, Laid};
 
 // The effort of the tile of an index. Where there is no such tile, nobody may enter.
 fn effort_at(efforts: &[u16], index: u32) -> u16
@@ -19,49 +19,38 @@ fn effort_at(efforts: &[u16], index: u32) -> u16
     limits::BARRED
 }
 
-// What it costs to enter each of six tiles.
-pub(crate) fn prices(efforts: &[u16], to: [u32; 6]) -> [u64; 6]
-    ensures { λ r. ⌜ Laid (λ d. priceOf (effortAt (now (efforts .entry)) (getD to d 0))) 6 r ⌝ }
-{
-    let mut costs = [0u64; 6];
-    for d in 0..6 {
-        costs[d] = terrain::price_of(effort_at(efforts, to[d]));
-    }
-    costs
-}
-
-// What it weighs to leave a tile of this effort, and 0, which bars the step, if it is barred.
-fn weight_out(effort: u16) -> u64
-    ensures { λ r. ⌜ r ≡ weightOut effort ⌝ }
+// What a step weighs in a rank, by the efforts of the tile that is left and of the tile that is entered; 0, which bars the step, if either is barred.
+fn weight_by(left: u16, entered: u16) -> u64
+    ensures { λ r. ⌜ r ≡ weightBy left entered ⌝ }
     ensures { λ r. ⌜ r ≤ largestTotal ⌝ }
 {
-    if effort < limits::BARRED {
-        effort as u64 * limits::RANK_UNIT + 1
-    } else {
-        0
-    }
-}
-
-// The same weight for a step into a tile of this effort, and 0 if that is barred.
-fn weight_into(weight: u64, effort: u16) -> u64
-    requires { ⌜ weight ≤ largestTotal ⌝ }
-    ensures { λ r. ⌜ r ≡ weightInto weight effort ⌝ }
-    ensures { λ r. ⌜ r ≤ largestTotal ⌝ }
-{
-    if effort >= limits::BARRED {
+    if entered >= limits::BARRED {
         return 0;
     }
-    weight
+    if left >= limits::BARRED {
+        return 0;
+    }
+    left as u64 * limits::RANK_UNIT + 1
 }
 
-// What it weighs to leave a tile of this effort for each of six tiles.
-pub(crate) fn weights(efforts: &[u16], to: [u32; 6], effort: u16) -> [u64; 6]
-    ensures { λ r. ⌜ Laid (λ d. weightInto (weightOut effort) (effortAt (now (efforts .entry)) (getD to d 0))) 6 r ⌝ }
+// What a step costs, by the same efforts; 0 bars the step.
+fn cost_by(table: Table, left: u16, entered: u16) -> u64
+    ensures { λ r. ⌜ r ≡ costBy table left entered ⌝ }
+    ensures { λ r. ⌜ r ≤ largestTotal ⌝ }
 {
-    let weight = weight_out(effort);
+    match table {
+        Table::Totals => terrain::price_of(entered),
+        Table::Ranks => weight_by(left, entered),
+    }
+}
+
+// What the six steps out of a tile cost, by its effort and the tiles that they lead to.
+pub(crate) fn costs_out(table: Table, efforts: &[u16], left: u16, to: [u32; 6]) -> [u64; 6]
+    ensures { λ r. ⌜ Laid (λ d. costBy table left (effortAt (now (efforts .entry)) (getD to d 0))) 6 r ⌝ }
+{
     let mut costs = [0u64; 6];
     for d in 0..6 {
-        costs[d] = weight_into(weight, effort_at(efforts, to[d]));
+        costs[d] = cost_by(table, left, effort_at(efforts, to[d]));
     }
     costs
 }

@@ -6,9 +6,8 @@ use hex::limits;
 use storage::Index;
 use storage::Map;
 ghost use mathlib.Core.Path.{_≡_};
-ghost use Prim.Native.Nat.{_*_, _≤_, min};
+ghost use Prim.Native.Nat.{_+_, _*_, _<_, _≤_, min};
 ghost use lib.ListN.{length};
-ghost use Rattle.routes.specs.Ranks.{noRank};
 ghost use Rattle.hex.specs.Limits.{noWay};
 ghost use Rattle.engine.specs.Filling.{fits};
 ghost use Rattle.engine.specs.Settling.{totals};
@@ -22,6 +21,14 @@ pub(crate) fn fit(map: Map, start: Index, efforts: usize, table: usize) -> bool
         return false;
     }
     terrain::lengths_fit(map, efforts, table)
+}
+
+// The total of tile t, one of a tiles.
+fn total_at(tree: &[u64], a: usize, t: usize) -> u64
+    requires { ⌜ a + t < length (now tree) ⌝ }
+    ensures { λ r. ⌜ r ≡ totals a (now (tree .entry)) t ⌝ }
+{
+    total_of(tree[a + t])
 }
 
 // A total as an entry: the mark for no way is the largest that an entry can hold.
@@ -43,7 +50,7 @@ pub(crate) fn write_totals(tree: &[u64], table: &mut [u32])
     let a = table.len();
     let mut i: usize = 0;
     while i < a {
-        table[i] = entry_of(total_of(tree[a + i]));
+        table[i] = entry_of(total_at(tree, a, i));
         i += 1;
     }
 }
@@ -67,19 +74,7 @@ pub(crate) fn write_ranks(tree: &[u64], table: &mut [u64])
     let a = table.len();
     let mut i: usize = 0;
     while i < a {
-        table[i] = rank_of(total_of(tree[a + i]));
-        i += 1;
-    }
-}
-
-// Writes that no tile has a route.
-pub(crate) fn write_no_ranks(table: &mut [u64])
-    ensures { λ _. ⌜ Written (length (now (table .entry))) (λ t. noRank) (length (now (table .entry))) (now (table .exit)) ⌝ }
-{
-    let a = table.len();
-    let mut i: usize = 0;
-    while i < a {
-        table[i] = limits::NO_RANK;
+        table[i] = rank_of(total_at(tree, a, i));
         i += 1;
     }
 }

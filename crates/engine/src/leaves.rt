@@ -1,5 +1,6 @@
 // A tile's leaf tells the tile's total and whether the tile is open, that is, still to be settled. `specs/Leaves` names the same numbers for the promises.
 
+use hex::limits;
 ghost use mathlib.Core.Path.{_≡_};
 ghost use Prim.Native.Nat.{_%_, _<_, _≤_};
 ghost use Rattle.engine.specs.Leaves.{indices, noTotal, largestTotal, totalOf, openLeaf, closedLeaf};
@@ -18,6 +19,12 @@ pub(crate) const LARGEST_TOTAL: u64 = SHUT / INDICES - 1;
 
 // The leaf of a tile to which no way has been found.
 pub(crate) const UNREACHED: u64 = SHUT + NO_TOTAL;
+
+// The largest radius of a map.
+const RADIUS: usize = limits::RADIUS as usize;
+
+// A tree over the largest map has twice as many nodes as that map has tiles.
+pub(crate) const ROOM: usize = 2 * (3 * RADIUS * (RADIUS + 1) + 1);
 
 // The total of the tile.
 pub(crate) fn total_of(leaf: u64) -> u64

@@ -2,7 +2,6 @@
 
 ghost use Rattle.engine.specs.Filling.{FillsTotals, FillsRanks};
 
-mod beside;
 mod costs;
 mod filling;
 mod leaves;
@@ -11,9 +10,9 @@ mod steps;
 mod turns;
 mod winners;
 
-use crate::leaves::LARGEST_TOTAL;
+use crate::leaves::ROOM;
+use crate::leaves::UNREACHED;
 use crate::steps::Table;
-use hex::limits;
 use storage::Index;
 use storage::Map;
 
@@ -21,25 +20,21 @@ use storage::Map;
 pub fn fill_totals(map: Map, efforts: &[u16], start: Index, budget: u32, totals: &mut [u32])
     ensures { λ _. ⌜ FillsTotals map (now (efforts .entry)) (start .0) budget (now (totals .entry)) (now (totals .exit)) ⌝ }
 {
-    if !filling::fit(map, start, efforts.len(), totals.len()) {
-        return;
+    if filling::fit(map, start, efforts.len(), totals.len()) {
+        let s = start.0 as usize;
+        let mut tree = [UNREACHED; ROOM];
+        turns::settle(&mut tree, Table::Totals, map, efforts, s, budget as u64);
+        filling::write_totals(&tree, totals);
     }
-    let tree = turns::settle(Table::Totals, map, efforts, start.0 as usize, budget as u64);
-    filling::write_totals(&tree, totals);
 }
 
 // Fills a table with the ranks for an end, by dense index. It is left as it is if the map is not fine, or the end or the length of a table is not the map's.
 pub fn fill_ranks(map: Map, efforts: &[u16], end: Index, ranks: &mut [u64])
     ensures { λ _. ⌜ FillsRanks map (now (efforts .entry)) (end .0) (now (ranks .entry)) (now (ranks .exit)) ⌝ }
 {
-    if !filling::fit(map, end, efforts.len(), ranks.len()) {
-        return;
+    if filling::fit(map, end, efforts.len(), ranks.len()) {
+        let mut tree = [UNREACHED; ROOM];
+        turns::settle_ranks(&mut tree, map, efforts, end.0 as usize);
+        filling::write_ranks(&tree, ranks);
     }
-    let e = end.0 as usize;
-    if efforts[e] >= limits::BARRED {
-        filling::write_no_ranks(ranks);
-        return;
-    }
-    let tree = turns::settle(Table::Ranks, map, efforts, e, LARGEST_TOTAL);
-    filling::write_ranks(&tree, ranks);
 }

@@ -1,14 +1,13 @@
-// The six steps out of a tile: where they lead and what they cost, in the two lands whose least sums the engine tells.
+// Where the six steps out of a tile lead, in the two lands whose least sums the engine tells.
 
-use crate::beside::beside;
-use crate::beside::turned;
-use crate::costs::prices;
-use crate::costs::weights;
+use storage::Index;
 use storage::Map;
-ghost use Prim.Native.Nat.{_<_};
-ghost use lib.ListN.{length};
-ghost use Rattle.engine.specs.Steps.{toOf, costOf, StepsOf};
-ghost use Rattle.engine.specs.Turns.{OfMap};
+ghost use mathlib.Core.Path.{_≡_};
+ghost use Prim.Native.Nat.{ℕ, _<_};
+ghost use lib.ListN.{getD};
+ghost use Rattle.storage.specs.Maps.{mapRefusal, areaOf};
+ghost use Rattle.terrain.specs.LandOfMap.{against};
+ghost use Rattle.engine.specs.Steps.{toOf};
 
 // Which table the sums are for. For totals a step is walked as it is, at the price of the tile that it enters. For ranks it is walked the other way, so that the sums are those of
 // the routes to one end: it leaves the tile that the route enters, and weighs that tile's effort.
@@ -17,34 +16,22 @@ pub(crate) enum Table {
     Ranks,
 }
 
-// By direction, the tiles that the steps lead to, and what they cost.
-pub(crate) struct Steps {
-    pub(crate) to: [u32; 6],
-    pub(crate) costs: [u64; 6],
+// The tiles beside a tile, each by the direction that leads from it back to that tile.
+fn turned(near: [u32; 6]) -> [u32; 6]
+    ensures { λ r. ⌜ ((d : ℕ) → d < 6 → getD r d 0 ≡ getD near (against d) 0) ⌝ }
+{
+    [near[3], near[4], near[5], near[0], near[1], near[2]]
 }
 
-// The steps out of tile u.
-pub(crate) fn steps_out(table: Table, map: Map, efforts: &[u16], u: usize) -> Steps
-    requires { ⌜ OfMap map (now efforts) ⌝ }
-    requires { ⌜ u < length (now efforts) ⌝ }
-    ensures { λ r. ⌜ StepsOf (toOf table map u) (costOf table map (now (efforts .entry)) u) r ⌝ }
+// The tiles that the six steps out of tile u lead to, by direction; an index past the area where there is none.
+pub(crate) fn tiles_out(table: Table, map: Map, u: usize) -> [u32; 6]
+    requires { ⌜ mapRefusal map ≡ 0 ⌝ }
+    requires { ⌜ u < areaOf (map .radius) ⌝ }
+    ensures { λ r. ⌜ ((d : ℕ) → d < 6 → getD r d 0 ≡ toOf table map u d) ⌝ }
 {
-    let near = beside(map, u);
+    let near = storage::all_neighbors(map, Index(u as u32));
     match table {
-        Table::Totals => {
-            let costs = prices(efforts, near);
-            Steps {
-                to: near,
-                costs: costs,
-            }
-        }
-        Table::Ranks => {
-            let to = turned(near);
-            let costs = weights(efforts, to, efforts[u]);
-            Steps {
-                to: to,
-                costs: costs,
-            }
-        }
+        Table::Totals => near,
+        Table::Ranks => turned(near),
     }
 }

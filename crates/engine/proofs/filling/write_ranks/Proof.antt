@@ -1,13 +1,11 @@
 -- `write_ranks` meets its contract: before each turn the ranks of the tiles passed stand in the table.
-use mathlib.Core.Path.{refl, ap, _∙_}
+use mathlib.Core.Path.{ap, _∙_}
 use Prim.Native.Nat.{_-_}
-use denote.Ref.{now}
-use native.Mathlib.Omega.{arith}
 use borrow.Author.Needs.{needs}
 use lib.ListN.{length}
 use Rattle.engine.specs.Settling.{totals}
 use Rattle.engine.specs.Writing.{rankOf, Written}
-use Rattle.engine.proofs.Fillings.{written-next}
+use Rattle.engine.proofs.Writing.{written-none, written-next, written-all}
 use Rattle.engine.proofs.filling.write_ranks.Statement.{statement}
 use Rattle.engine.proofs.filling.write_ranks.Tie as tie
 
@@ -18,19 +16,10 @@ abbrev μ-loop : tie.MeasureT-loop
 μ-loop tree table₀ a i₀ table i = length table₀ - i
 
 loop-holds : tie.Need-loop-holds Inv-loop μ-loop
-loop-holds c = record { size = refl; below = λ t l. absurd (omega arith) }
+loop-holds c = written-none
 
-add-total-of : tie.Need-add-total-of Inv-loop μ-loop
-add-total-of c = search needs
-
-mul-total-of : tie.Need-mul-total-of Inv-loop μ-loop
-mul-total-of c = search needs
-
-shared-slice-read-total-of : tie.Need-shared-slice-read-total-of Inv-loop μ-loop
-shared-slice-read-total-of c = let l = c .before in omega (arith, l .loop-test .taken, l .before .before .before .before .pre)
-
-total-of-requires : tie.Need-total-of-requires Inv-loop μ-loop
-total-of-requires c κs = tt
+total-at-requires : tie.Need-total-at-requires Inv-loop μ-loop
+total-at-requires c κs = search needs
 
 rank-of-requires : tie.Need-rank-of-requires Inv-loop μ-loop
 rank-of-requires c κs = tt
@@ -39,26 +28,25 @@ mul-table : tie.Need-mul-table Inv-loop μ-loop
 mul-table c = search needs
 
 slice-write-table : tie.Need-slice-write-table Inv-loop μ-loop
-slice-write-table c = let l = c .before .before .before in omega (arith, l .loop-test .taken, l .before .loop .inv .size)
+slice-write-table c = search needs
 
 add-i : tie.Need-add-i Inv-loop μ-loop
 add-i c = search needs
 
 loop-less : tie.Need-loop-less Inv-loop μ-loop
-loop-less c = let l = c .before .before .before in omega (arith, l .loop-test .taken)
+loop-less c = search needs
 
 loop-again : tie.Need-loop-again Inv-loop μ-loop
 loop-again c =
-    let l = c .before .before .before in
-    let x = l .before .before .before .before .args in
-    let a = length (now (x .table)) in
-    written-next a (λ t. rankOf (totals a (now (x .tree)) t)) (l .before .loop .i) (c .rank-of .result) (l .before .loop .table) (l .loop-test .taken) (c .rank-of .ensures ∙ ap rankOf (c .before .total-of .ensures)) (l .before .loop .inv)
+    let t = c .before in
+    let l = t .before in
+    written-next _ (l .loop-test .taken) (c .rank-of .ensures ∙ ap rankOf (t .total-at .ensures)) (l .before .loop .inv)
 
 same-length : tie.Need-same-length Inv-loop μ-loop
 same-length c = c .before .loop .inv .size
 
 returns : tie.Need-returns Inv-loop μ-loop
-returns c = let w = c .before .loop .inv in record { size = w .size; below = λ t h. w .below t (omega (arith, c .loop-test .left)) }
+returns c = written-all (c .loop-test .left) (c .before .loop .inv)
 
 pub write-ranks-spec : {M : Type 1} → statement M
 write-ranks-spec =
@@ -67,10 +55,7 @@ write-ranks-spec =
     Inv-loop
     μ-loop
     loop-holds
-    add-total-of
-    mul-total-of
-    shared-slice-read-total-of
-    total-of-requires
+    total-at-requires
     rank-of-requires
     mul-table
     slice-write-table

@@ -9,19 +9,19 @@ use Rattle.engine.proofs.settling.look.Statement.{statement}
 use Rattle.engine.proofs.settling.look.Tie as tie
 
 add-x : tie.Need-add-x
-add-x c = search needs
+add-x c = omega arith
 
 add-total-of : tie.Need-add-total-of
-add-total-of c = search needs
+add-total-of c = omega arith
 
 mul-total-of : tie.Need-mul-total-of
-mul-total-of c = search needs
+mul-total-of c = omega arith
 
 slice-read-total-of : tie.Need-slice-read-total-of
-slice-read-total-of c = search needs
+slice-read-total-of c = omega arith
 
 total-of-requires : tie.Need-total-of-requires
-total-of-requires c κs = search needs
+total-of-requires c κs = tt
 
 open-leaf-requires : tie.Need-open-leaf-requires
 open-leaf-requires c κs = search needs
@@ -30,7 +30,7 @@ set-leaf-requires : tie.Need-set-leaf-requires
 set-leaf-requires c κs = search needs
 
 same-length : tie.Need-same-length
-same-length c = search needs
+same-length c = omega arith
 
 returns : tie.Need-returns
 returns c =

@@ -1,5 +1,6 @@
 -- `turns` meets its contract: each turn keeps what is right on the way, and the measure falls.
 use mathlib.Core.Path.{_≡_, refl, _∙_}
+use denote.Ref.{now}
 use lib.ListN.{length}
 use native.Mathlib.Omega.{arith}
 use Rattle.paths.specs.Lands.{Land}
@@ -12,11 +13,12 @@ use Rattle.engine.proofs.turns.turns.Statement.{statement}
 use Rattle.engine.proofs.turns.turns.Tie as tie
 
 abbrev Inv-loop : tie.InvT-loop
-Inv-loop table map efforts tree₀ a budget tree =
+Inv-loop tree₀ table map efforts budget tree =
+    let a = length efforts in
     Heap a tree × (length tree ≡ length tree₀) × ((G : Land) → Paved G a (toOf table map) (costOf table map efforts) → Goes G budget a tree₀ tree (live a tree₀) (live a tree))
 
 abbrev μ-loop : tie.MeasureT-loop
-μ-loop table map efforts tree₀ a budget tree = work a tree
+μ-loop tree₀ table map efforts budget tree = work (length efforts) tree
 
 loop-holds : tie.Need-loop-holds Inv-loop μ-loop
 loop-holds c = (c .before .before .pre .0, refl, λ G paved s g. g)
@@ -48,7 +50,7 @@ returns : tie.Need-returns Inv-loop μ-loop
 returns c =
     let l = c .before .before in
     let x = l .before .before .before .args in
-    λ G s paved g. going-done G s (x .budget) (x .a) (l .loop .tree) (l .loop .inv .0) (omega (arith, c .if1 .left)) (l .loop .inv .2 G paved s g)
+    λ G s paved g. going-done G s (x .budget) (length (now (x .efforts))) (l .loop .tree) (l .loop .inv .0) (omega (arith, c .if1 .left)) (l .loop .inv .2 G paved s g)
 
 pub turns-spec : {M : Type 1} → statement M
 turns-spec =

@@ -4,7 +4,6 @@ use Prim.Native.Nat.{ℕ, _+_, _-_, _*_, _/_, _<_, _≤_, min}
 use native.Mathlib.Omega.{arith}
 use lib.ListN.{length, getD, length-set}
 use lib.Seq.{getD-set-same, getD-set-other}
-use borrow.Author.Needs.{needs}
 use Rattle.engine.specs.Leaves.{indices}
 use Rattle.engine.specs.Trees.{leaf, Node, Put}
 use Rattle.engine.proofs.Nodes.{But, but-leaf, but-parent, but-none, beside-k, put-when}
@@ -32,69 +31,69 @@ wins m =
     m .smaller .ensures ∙ ap (λ (w : ℕ). min w (getD (l .tree) (4 * (l .k / 2) + 1 - l .k) 0)) (sym (l .inv .7)) ∙ beside-k (l .k) (l .tree) (l .inv .0)
 
 add-k : tie.Need-add-k Inv-loop μ-loop
-add-k c = search needs
+add-k c = omega arith
 
 mul-tree : tie.Need-mul-tree Inv-loop μ-loop
-mul-tree c = search needs
+mul-tree c = omega arith
 
 slice-write-tree : tie.Need-slice-write-tree Inv-loop μ-loop
-slice-write-tree c = search needs
+slice-write-tree c = omega arith
 
 loop-holds : tie.Need-loop-holds Inv-loop μ-loop
 loop-holds c =
     let x = c .before .args in
     let p = c .before .pre in (
-      search needs,
-      search needs,
-      search needs,
+      omega arith,
+      omega arith,
+      omega arith,
       refl,
-      simp length-set (search needs),
+      simp length-set (omega arith),
       but-leaf (x .a) (x .i) (x .v) (x .tree .now) (p .0),
       λ j. refl,
-      getD-set-same (x .tree .now) (x .a + x .i) (x .v) 0 (search needs),
+      getD-set-same (x .tree .now) (x .a + x .i) (x .v) 0 (omega arith),
     )
 
 mul-smaller : tie.Need-mul-smaller Inv-loop μ-loop
-mul-smaller c = search needs
+mul-smaller c = omega arith
 
 add-smaller : tie.Need-add-smaller Inv-loop μ-loop
-add-smaller c = search needs
+add-smaller c = omega arith
 
 sub-smaller : tie.Need-sub-smaller Inv-loop μ-loop
-sub-smaller c = search needs
+sub-smaller c = omega arith
 
 mul-smaller-2 : tie.Need-mul-smaller-2 Inv-loop μ-loop
-mul-smaller-2 c = search needs
+mul-smaller-2 c = omega arith
 
 slice-read-smaller : tie.Need-slice-read-smaller Inv-loop μ-loop
-slice-read-smaller c = search needs
+slice-read-smaller c = omega arith
 
 smaller-requires : tie.Need-smaller-requires Inv-loop μ-loop
-smaller-requires c κs = search needs
+smaller-requires c κs = tt
 
 mul-if1 : tie.Need-mul-if1 Inv-loop μ-loop
-mul-if1 c = search needs
+mul-if1 c = omega arith
 
 slice-read-if1 : tie.Need-slice-read-if1 Inv-loop μ-loop
-slice-read-if1 c = search needs
+slice-read-if1 c = omega arith
 
 returns : tie.Need-returns Inv-loop μ-loop
 returns c =
     let m = c .before .before in
     let l = m .before .before .before in
-    ended l (but-none (l .before .before .args .a) (l .loop .k) (l .loop .tree) (l .loop .inv .5) (c .if1 .taken ∙ wins m))
+    ended l (but-none (l .before .before .args .a) (l .loop .k) (l .loop .tree) (l .loop .inv .5) (omega (arith, c .if1 .taken, wins m)))
 
 same-length : tie.Need-same-length Inv-loop μ-loop
 same-length c = returns c .size
 
 mul-tree-2 : tie.Need-mul-tree-2 Inv-loop μ-loop
-mul-tree-2 c = search needs
+mul-tree-2 c = omega arith
 
 slice-write-tree-2 : tie.Need-slice-write-tree-2 Inv-loop μ-loop
-slice-write-tree-2 c = search needs
+slice-write-tree-2 c = omega arith
 
 loop-less : tie.Need-loop-less Inv-loop μ-loop
-loop-less c = search needs
+loop-less c = omega arith
 
 loop-again : tie.Need-loop-again Inv-loop μ-loop
 loop-again c =
@@ -103,14 +102,14 @@ loop-again c =
     let x = l .before .before .args in
     let w = m .smaller .result in
     let k = l .loop .k in (
-      search needs,
-      search needs,
-      search needs,
+      omega arith,
+      omega arith,
+      omega arith,
       length-set (l .loop .tree) (k / 2) w ∙ l .loop .inv .3,
-      simp length-set (search needs),
-      but-parent (x .a) k w (l .loop .tree) (search needs) (l .loop .inv .5) (wins m),
+      simp length-set (omega arith),
+      but-parent (x .a) k w (l .loop .tree) (omega arith) (l .loop .inv .5) (wins m),
       λ j. getD-set-other (l .loop .tree) (k / 2) (x .a + j) w 0 (λ e. omega (arith, e, l .loop .inv)) ∙ l .loop .inv .6 j,
-      getD-set-same (l .loop .tree) (k / 2) w 0 (search needs),
+      getD-set-same (l .loop .tree) (k / 2) w 0 (omega arith),
     )
 
 returns-2 : tie.Need-returns-2 Inv-loop μ-loop

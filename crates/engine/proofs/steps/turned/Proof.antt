@@ -6,8 +6,8 @@ use native.Mathlib.Omega.{arith}
 use lib.ListN.{getD}
 use borrow.Author.Needs.{needs}
 use Rattle.terrain.specs.LandOfMap.{against}
-use Rattle.engine.proofs.beside.turned.Statement.{statement}
-use Rattle.engine.proofs.beside.turned.Tie as tie
+use Rattle.engine.proofs.steps.turned.Statement.{statement}
+use Rattle.engine.proofs.steps.turned.Tie as tie
 
 each : (x : List ℕ) (d : ℕ) → d < 6 → getD (getD x 3 0 ∷ getD x 4 0 ∷ getD x 5 0 ∷ getD x 0 0 ∷ getD x 1 0 ∷ getD x 2 0 ∷ []) d 0 ≡ getD x (against d) 0
 each x zero h = refl

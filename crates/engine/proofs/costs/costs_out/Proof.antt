@@ -1,22 +1,18 @@
--- `weights` meets its contract: the costs below d are laid.
-use mathlib.Core.Path.{_≡_, ap₂, _∙_}
+-- `costs_out` meets its contract: the costs below d are laid.
+use mathlib.Core.Path.{_≡_, ap, _∙_}
 use Prim.Native.Nat.{_-_, _≤_}
-use denote.Ref.{now}
 use native.Mathlib.Omega.{arith}
 use lib.ListN.{getD}
-use Rattle.engine.specs.Steps.{effortAt, weightOut, weightInto, Laid}
+use Rattle.engine.specs.Steps.{effortAt, costBy, Laid}
 use Rattle.engine.proofs.StepCosts.{laid-none, laid-next}
-use Rattle.engine.proofs.costs.weights.Statement.{statement}
-use Rattle.engine.proofs.costs.weights.Tie as tie
+use Rattle.engine.proofs.costs.costs_out.Statement.{statement}
+use Rattle.engine.proofs.costs.costs_out.Tie as tie
 
 abbrev Inv-loop : tie.InvT-loop
-Inv-loop efforts effort to weight costs₀ d₀ costs d = (d ≤ 6) × Laid (λ k. weightInto (weightOut effort) (effortAt efforts (getD to k 0))) d costs
+Inv-loop table efforts left to costs₀ d₀ costs d = (d ≤ 6) × Laid (λ k. costBy table left (effortAt efforts (getD to k 0))) d costs
 
 abbrev μ-loop : tie.MeasureT-loop
-μ-loop efforts effort to weight costs₀ d₀ costs d = 6 - d
-
-weight-out-requires : tie.Need-weight-out-requires Inv-loop μ-loop
-weight-out-requires c κs = tt
+μ-loop table efforts left to costs₀ d₀ costs d = 6 - d
 
 loop-holds : tie.Need-loop-holds Inv-loop μ-loop
 loop-holds c = (omega arith, laid-none)
@@ -30,8 +26,8 @@ array-read-effort-at c = omega arith
 effort-at-requires : tie.Need-effort-at-requires Inv-loop μ-loop
 effort-at-requires c κs = tt
 
-weight-into-requires : tie.Need-weight-into-requires Inv-loop μ-loop
-weight-into-requires c κs = c .before .before .before .weight-out .ensures .1
+cost-by-requires : tie.Need-cost-by-requires Inv-loop μ-loop
+cost-by-requires c κs = tt
 
 mul-costs : tie.Need-mul-costs Inv-loop μ-loop
 mul-costs c = omega arith
@@ -49,10 +45,9 @@ loop-again : tie.Need-loop-again Inv-loop μ-loop
 loop-again c =
     let t = c .before in
     let l = t .before .before in
-    let o = l .before in
-    let x = o .before .before .args in
-    let is = c .weight-into .ensures .0 ∙ ap₂ weightInto (o .weight-out .ensures .0) (t .effort-at .ensures) in
-    (omega arith, laid-next (λ k. weightInto (weightOut (x .effort)) (effortAt (now (x .efforts)) (getD (x .t2) k 0))) (l .loop .costs) (l .loop .d) (c .weight-into .result) (omega arith) is (c .weight-into .ensures .1) (l .loop .inv .1))
+    let x = l .before .before .args in
+    let p = c .cost-by .ensures in
+    (omega arith, laid-next _ _ (l .loop .d) _ (omega arith) (p .0 ∙ ap (costBy (x .table) (x .left)) (t .effort-at .ensures)) (p .1) (l .loop .inv .1))
 
 returns : tie.Need-returns Inv-loop μ-loop
 returns c =
@@ -60,18 +55,17 @@ returns c =
     let e : l .loop .d ≡ 6 = omega arith in
     rw e at (l .loop .inv .1)
 
-pub weights-spec : {M : Type 1} → statement M
-weights-spec =
+pub costs-out-spec : {M : Type 1} → statement M
+costs-out-spec =
     tie.close
     (tie.spec
     Inv-loop
     μ-loop
-    weight-out-requires
     loop-holds
     mul-effort-at
     array-read-effort-at
     effort-at-requires
-    weight-into-requires
+    cost-by-requires
     mul-costs
     array-write-costs
     add-d
