@@ -5,8 +5,9 @@ use Prim.Native.Nat.{ℕ, zero, suc, _<_, _≤_}
 use native.Mathlib.Omega.{arith}
 use lib.IntN.{ℤ, pos}
 use lib.ListN.{length}
-use Rattle.hex.specs.Answers.{Told, Answer, found, refusal, Tells}
+use Rattle.hex.specs.Answers.{Told, Answer, found, refusal, Tells, accepted}
 use Rattle.hex.specs.Refusals.{runTooShort}
+use Rattle.hex.specs.Tiles.{tile}
 use Rattle.hex.specs.declared.Tile.{Tile}
 use Rattle.runs.specs.Runs.{Lists, Put}
 use Rattle.runs.specs.declared.ListAnswer.{ListAnswer}
@@ -19,7 +20,8 @@ use Rattle.storage.specs.declared.Map.{Map}
 use Rattle.firmware.specs.Calls.{minus, tilesTold}
 use Rattle.firmware.specs.Lists.{ListCall}
 use Rattle.firmware.specs.Numbers.{answered, indexAnswered}
-use Rattle.firmware.specs.Pairs.{toldBy, PairCall}
+use Rattle.firmware.specs.Pairs.{ofTile, toldBy, pairTold, PairCall}
+use Rattle.firmware.specs.declared.pairs.PairTold.{PairTold}
 
 -- With a refusal the value does not matter.
 answered-refused : (number value : ℕ) → 0 < number → minus number ≡ answered number value
@@ -67,21 +69,19 @@ module _ (number : ℕ) (laid : Tile) (before : List ℤ) (answer : ℤ) where
   pair-laid z h put e = told-list _ _ _ _ (ListAnswer.Listed 1) answer e (listed-all number (laid ∷ []) before refl z refl h (laid-put before 0 laid laid h refl put))
 
 -- What an answer tells is what its rule holds of.
-told-rule : {A : Type 0} (zeros : A) (rule : Told A → Type 0) (a : Answer A) → Tells zeros a rule → rule (toldBy zeros a)
+pub told-rule : {A : Type 0} (zeros : A) (rule : Told A → Type 0) (a : Answer A) → Tells zeros a rule → rule (toldBy zeros a)
 told-rule zeros rule (found a) h = h
 told-rule zeros rule (refusal n) h = h .1
 
--- A pair that was written for one case of an answer.
-pub as-told : {A R : Type 0} (told : R → Told A) (laid : A → Tile) {a b : R} {answer answer′ : ℤ} {before after : List ℤ} {t : Tile} → a ≡ b → answer ≡ answer′ → t ≡ laid (told b .value) → ListCall (told b .number) (t ∷ []) before after answer′ → ListCall (told a .number) (laid (told a .value) ∷ []) before after answer
-as-told {A} {R} told laid {a} {b} {answer} {answer′} {before} {after} e f g h =
-    let l = subst (λ (u : Tile). ListCall (told b .number) (u ∷ []) before after answer′) g h in
-    subst₂ (λ (r : R) (z : ℤ). ListCall (told r .number) (laid (told r .value) ∷ []) before after z) (sym e) (sym f) l
+-- A pair whose entries were read back.
+pub read-pair : {x x′ y y′ : ℤ} → x′ ≡ x → y′ ≡ y → pairTold ofTile (accepted (tile x′ y′)) ≡ pairTold ofTile (accepted (tile x y))
+read-pair p q = ap₂ (λ (x y : ℤ). pairTold ofTile (accepted (tile x y))) p q
 
--- A pair that was asked for by what was made of the arguments.
-pub pair-call : {A B : Type 0} (zeros : A) (rule : B → Told A → Type 0) (laid : A → Tile) {asked made : B} → made ≡ asked → (a : Answer A) {before after : List ℤ} {answer answer′ : ℤ} → Tells zeros a (rule made) → answer ≡ answer′ → ListCall (toldBy zeros a .number) (laid (toldBy zeros a .value) ∷ []) before after answer′ → PairCall (rule asked) laid before after answer
-pair-call {A} {B} zeros rule laid {asked} {made} is a {before} {after} h e l =
+-- A pair that was asked for by what was made of the arguments, read from the answer, and written.
+pub pair-call : {A B : Type 0} (zeros : A) (rule : B → Told A → Type 0) (laid : A → Tile) {asked made : B} → made ≡ asked → (a : Answer A) {p : PairTold} {before after : List ℤ} {answer answer′ : ℤ} → Tells zeros a (rule made) → p ≡ pairTold laid (toldBy zeros a) → answer ≡ answer′ → ListCall (p .number) (p .laid ∷ []) before after answer′ → PairCall (rule asked) laid before after answer
+pair-call {A} {B} zeros rule laid {asked} {made} is a {before} {after} h told e l =
     record {
       told = toldBy zeros a;
       tells = subst (λ (b : B). rule b (toldBy zeros a)) is (told-rule zeros (rule made) a h);
-      lists = subst (λ (z : ℤ). ListCall (toldBy zeros a .number) (laid (toldBy zeros a .value) ∷ []) before after z) (sym e) l;
+      lists = subst₂ (λ (p : PairTold) (z : ℤ). ListCall (p .number) (p .laid ∷ []) before after z) told (sym e) l;
     }

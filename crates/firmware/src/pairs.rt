@@ -1,7 +1,6 @@
 // The calls for C that write a pair of numbers to the first two entries of a lent run. Each answers 1; refused, it leaves the run as it is.
 
 use crate::map_at;
-use crate::told;
 use conversions::GridAnswer;
 use conversions::GridPair;
 use hex::Tile;
@@ -12,56 +11,88 @@ use storage::RowColumn;
 use storage::RowColumnAnswer;
 ghost use mathlib.Core.Path.{_≡_};
 ghost use mathlib.Core.List.{[], _∷_};
-ghost use Rattle.hex.specs.Answers.{origin, tileAnswer};
+ghost use Rattle.hex.specs.Answers.{origin, tileAnswer, refusedTile};
 ghost use Rattle.hex.specs.Tiles.{tile};
-ghost use Rattle.storage.specs.Hexagonal.{rowColumn, toRowColumn, FromRowColumn};
+ghost use Rattle.storage.specs.Hexagonal.{rowColumn, rowColumnAnswer, toRowColumn, FromRowColumn};
 ghost use Rattle.storage.specs.Hexmod.{index, FromHexmod};
 ghost use Rattle.conversions.specs.Grid.{pair, noPair, gridAnswer};
 ghost use Rattle.conversions.specs.Offset.{toOffset, FromOffset};
 ghost use Rattle.conversions.specs.Doubled.{toDoubled, FromDoubled};
 ghost use Rattle.firmware.specs.Calls.{mapAt};
 ghost use Rattle.firmware.specs.Lists.{ListCall};
-ghost use Rattle.firmware.specs.Pairs.{ofTile, ofGrid, ofRowColumn, toldBy, PairCall};
+ghost use Rattle.firmware.specs.Pairs.{ofTile, ofGrid, ofRowColumn, toldBy, pairTold, Signed, PairCall};
 
-// Writes a pair, named as a tile's coordinates are, where the arguments are not refused by `number` and the run has room for it.
-fn written(run: &mut [i32], number: u32, laid: Tile) -> i64
-    ensures { λ r. ⌜ ListCall number (laid ∷ []) (now (run .entry)) (now (run .exit)) r ⌝ }
-{
-    if number != 0 {
-        return told(number);
-    }
-    if run.len() < 2 {
-        return told(refusals::RUN_TOO_SHORT);
-    }
-    runs::put(run, 0, laid);
-    1
+// A pair that a call tells, named as a tile's coordinates are. Where the arguments are refused, it is the number of the refusal and zeros; number 0 is no refusal.
+struct PairTold {
+    number: u32,
+    laid: Tile,
 }
 
-// Writes the tile that was found.
-fn tile_written(run: &mut [i32], answer: TileAnswer) -> i64
-    ensures { λ r. ⌜ ListCall (toldBy origin (tileAnswer answer) .number) (toldBy origin (tileAnswer answer) .value ∷ []) (now (run .entry)) (now (run .exit)) r ⌝ }
+// What is told with a refusal.
+fn refused(number: u32) -> PairTold
+    ensures { λ r. ⌜ r ≡ pairTold ofTile (refusedTile number) ⌝ }
 {
-    match answer {
-        TileAnswer::Found(tile) => written(run, 0, tile),
-        TileAnswer::Refused(number) => written(run, number, Tile { x: 0, y: 0 }),
+    PairTold {
+        number,
+        laid: Tile { x: 0, y: 0 },
     }
 }
 
-// Writes the pair of a grid that was found, its column first.
-fn grid_written(run: &mut [i32], answer: GridAnswer) -> i64
-    ensures { λ r. ⌜ ListCall (toldBy noPair (gridAnswer answer) .number) (ofGrid (toldBy noPair (gridAnswer answer) .value) ∷ []) (now (run .entry)) (now (run .exit)) r ⌝ }
+// The pair of a tile.
+fn of_tile(answer: TileAnswer) -> PairTold
+    ensures { λ r. ⌜ r ≡ pairTold ofTile (toldBy origin (tileAnswer answer)) ⌝ }
 {
     match answer {
-        GridAnswer::Found(pair) => written(
-            run,
-            0,
-            Tile {
+        TileAnswer::Found(laid) => PairTold { number: 0, laid },
+        TileAnswer::Refused(number) => refused(number),
+    }
+}
+
+// The pair of a grid, its column first.
+fn of_grid(answer: GridAnswer) -> PairTold
+    ensures { λ r. ⌜ r ≡ pairTold ofGrid (toldBy noPair (gridAnswer answer)) ⌝ }
+{
+    match answer {
+        GridAnswer::Found(pair) => PairTold {
+            number: 0,
+            laid: Tile {
                 x: pair.column,
                 y: pair.row,
             },
-        ),
-        GridAnswer::Refused(number) => written(run, number, Tile { x: 0, y: 0 }),
+        },
+        GridAnswer::Refused(number) => refused(number),
     }
+}
+
+// The pair of a row and a column, the row first.
+fn of_row_column(answer: RowColumnAnswer) -> PairTold
+    requires { ⌜ Signed (toldBy (rowColumn 0 0) (rowColumnAnswer answer) .value) ⌝ }
+    ensures { λ r. ⌜ r ≡ pairTold ofRowColumn (toldBy (rowColumn 0 0) (rowColumnAnswer answer)) ⌝ }
+{
+    match answer {
+        RowColumnAnswer::Found(at) => PairTold {
+            number: 0,
+            laid: Tile {
+                x: at.row as i32,
+                y: at.column as i32,
+            },
+        },
+        RowColumnAnswer::Refused(number) => refused(number),
+    }
+}
+
+// Writes the pair, where it is not refused and the run has room for it.
+fn written(run: &mut [i32], told: PairTold) -> i64
+    ensures { λ r. ⌜ ListCall (told .number) (told .laid ∷ []) (now (run .entry)) (now (run .exit)) r ⌝ }
+{
+    if told.number != 0 {
+        return crate::told(told.number);
+    }
+    if run.len() < 2 {
+        return crate::told(refusals::RUN_TOO_SHORT);
+    }
+    runs::put(run, 0, told.laid);
+    1
 }
 
 // The tile of a map that has an index.
@@ -70,7 +101,10 @@ pub extern "C" fn kyrla_tile(cx: i32, cy: i32, radius: u32, at: u32, run: &mut [
     ensures { λ r. ⌜ PairCall (FromHexmod (mapAt cx cy radius) (index at)) ofTile (now (run .entry)) (now (run .exit)) r ⌝ }
 {
     let map = map_at(cx, cy, radius);
-    tile_written(run, storage::from_hexmod_coordinates(map, Index(at)))
+    written(
+        run,
+        of_tile(storage::from_hexmod_coordinates(map, Index(at))),
+    )
 }
 
 // The row and the column of a tile of a map, the row first.
@@ -86,17 +120,10 @@ pub extern "C" fn kyrla_row_column(
     ensures { λ r. ⌜ PairCall (λ told. told ≡ toRowColumn (mapAt cx cy radius) (tile x y)) ofRowColumn (now (run .entry)) (now (run .exit)) r ⌝ }
 {
     let map = map_at(cx, cy, radius);
-    match storage::to_row_column(map, Tile { x, y }) {
-        RowColumnAnswer::Found(at) => written(
-            run,
-            0,
-            Tile {
-                x: at.row as i32,
-                y: at.column as i32,
-            },
-        ),
-        RowColumnAnswer::Refused(number) => written(run, number, Tile { x: 0, y: 0 }),
-    }
+    written(
+        run,
+        of_row_column(storage::to_row_column(map, Tile { x, y })),
+    )
 }
 
 // The tile of a map that has a row and a column.
@@ -112,9 +139,9 @@ pub extern "C" fn kyrla_tile_at(
     ensures { λ r. ⌜ PairCall (FromRowColumn (mapAt cx cy radius) (rowColumn row column)) ofTile (now (run .entry)) (now (run .exit)) r ⌝ }
 {
     let map = map_at(cx, cy, radius);
-    tile_written(
+    written(
         run,
-        storage::from_row_column(map, RowColumn { row, column }),
+        of_tile(storage::from_row_column(map, RowColumn { row, column })),
     )
 }
 
@@ -130,9 +157,9 @@ pub extern "C" fn kyrla_to_offset(
     ensures { λ r. ⌜ PairCall (λ told. told ≡ toOffset (tile x y) mode orientation) ofGrid (now (run .entry)) (now (run .exit)) r ⌝ }
 {
     let tile = Tile { x, y };
-    grid_written(
+    written(
         run,
-        conversions::to_offset_coordinates(tile, mode, orientation),
+        of_grid(conversions::to_offset_coordinates(tile, mode, orientation)),
     )
 }
 
@@ -148,9 +175,9 @@ pub extern "C" fn kyrla_from_offset(
     ensures { λ r. ⌜ PairCall (FromOffset (pair column row) mode orientation) ofTile (now (run .entry)) (now (run .exit)) r ⌝ }
 {
     let pair = GridPair { column, row };
-    tile_written(
+    written(
         run,
-        conversions::from_offset_coordinates(pair, mode, orientation),
+        of_tile(conversions::from_offset_coordinates(pair, mode, orientation)),
     )
 }
 
@@ -160,7 +187,10 @@ pub extern "C" fn kyrla_to_doubled(x: i32, y: i32, mode: u32, run: &mut [i32]) -
     ensures { λ r. ⌜ PairCall (λ told. told ≡ toDoubled (tile x y) mode) ofGrid (now (run .entry)) (now (run .exit)) r ⌝ }
 {
     let tile = Tile { x, y };
-    grid_written(run, conversions::to_doubled_coordinates(tile, mode))
+    written(
+        run,
+        of_grid(conversions::to_doubled_coordinates(tile, mode)),
+    )
 }
 
 // The tile that has a pair of doubled coordinates.
@@ -169,5 +199,8 @@ pub extern "C" fn kyrla_from_doubled(column: i32, row: i32, mode: u32, run: &mut
     ensures { λ r. ⌜ PairCall (FromDoubled (pair column row) mode) ofTile (now (run .entry)) (now (run .exit)) r ⌝ }
 {
     let pair = GridPair { column, row };
-    tile_written(run, conversions::from_doubled_coordinates(pair, mode))
+    written(
+        run,
+        of_tile(conversions::from_doubled_coordinates(pair, mode)),
+    )
 }

@@ -16,8 +16,11 @@ use Rattle.firmware.proofs.pairs.kyrla_from_offset.Tie as tie
 from-offset-coordinates-requires : tie.Need-from-offset-coordinates-requires
 from-offset-coordinates-requires c κs = search needs
 
-tile-written-requires : tie.Need-tile-written-requires
-tile-written-requires c κs = search needs
+of-tile-requires : tie.Need-of-tile-requires
+of-tile-requires c κs = search needs
+
+written-requires : tie.Need-written-requires
+written-requires c κs = search needs
 
 same-length : tie.Need-same-length
 same-length c = search needs
@@ -25,12 +28,13 @@ same-length c = search needs
 returns : tie.Need-returns
 returns c =
     let w = c .before in
-    let f = w .before in
+    let p = w .before in
+    let f = p .before in
     let s = f .before .before in
     let a = s .args in
     let asked = ap₂ pair (toZ-ofZ (s .fits .column)) (toZ-ofZ (s .fits .row)) in
-    pair-call origin (λ (p : GridPair). FromOffset p (a .mode) (a .orientation)) ofTile asked (tileAnswer (f .from-offset-coordinates .result)) (f .from-offset-coordinates .ensures) (read w64 (w .tile-written .result) (w .tile-written .ok)) (w .tile-written .ensures)
+    pair-call origin (λ (p : GridPair). FromOffset p (a .mode) (a .orientation)) ofTile asked (tileAnswer (f .from-offset-coordinates .result)) (f .from-offset-coordinates .ensures) (p .of-tile .ensures) (read w64 (w .written .result) (w .written .ok)) (w .written .ensures)
 
 pub kyrla-from-offset-spec : {M : Type 1} → statement M
 kyrla-from-offset-spec =
-    tie.close (tie.spec from-offset-coordinates-requires tile-written-requires same-length returns)
+    tie.close (tie.spec from-offset-coordinates-requires of-tile-requires written-requires same-length returns)
