@@ -19,7 +19,7 @@ use Rattle.storage.specs.declared.IndexAnswer.{IndexAnswer}
 use Rattle.storage.specs.declared.Map.{Map}
 use Rattle.firmware.specs.Calls.{minus, tilesTold}
 use Rattle.firmware.specs.Lists.{ListCall}
-use Rattle.firmware.specs.Numbers.{answered, indexAnswered}
+use Rattle.firmware.specs.Numbers.{answered, indexTold, indexAnswered}
 use Rattle.firmware.specs.Pairs.{ofTile, toldBy, pairTold, PairCall}
 use Rattle.firmware.specs.declared.pairs.PairTold.{PairTold}
 
@@ -34,17 +34,13 @@ answered-value : (value : ℕ) → pos value ≡ answered 0 value
 unfolding answered
 answered-value value = refl
 
-module _ {map made : Map} (is : made ≡ map) {t asked : Tile} (at : asked ≡ t) where
-  as-answered : {told : Told Index} → told ≡ toHexmod made asked → answered (told .number) (told .value .0) ≡ indexAnswered map t
-  as-answered e = ap (λ (told : Told Index). answered (told .number) (told .value .0)) (e ∙ ap₂ toHexmod is at)
-
-  pub index-found : {a : IndexAnswer} (i : Index) → a ≡ IndexAnswer.Found i → IndexTells a (λ told. told ≡ toHexmod made asked) → pos (i .0) ≡ indexAnswered map t
-  index-found i e h = answered-value (i .0) ∙ as-answered (subst (λ (r : IndexAnswer). IndexTells r (λ told. told ≡ toHexmod made asked)) e h)
-
-  pub index-refused : {a : IndexAnswer} (number : ℕ) → a ≡ IndexAnswer.Refused number → IndexTells a (λ told. told ≡ toHexmod made asked) → minus number ≡ indexAnswered map t
-  index-refused number e h =
-      let k = subst (λ (r : IndexAnswer). IndexTells r (λ told. told ≡ toHexmod made asked)) e h in
-      answered-refused number 0 (k .0) ∙ as-answered (k .1)
+-- An index that was asked for of the map and the tile that were made.
+pub index-call : {map made : Map} → made ≡ map → {t asked : Tile} → asked ≡ t → (a : IndexAnswer) → IndexTells a (λ told. told ≡ toHexmod made asked) → indexTold a ≡ indexAnswered map t
+index-call {map} {made} is {t} {asked} at a h = told-index a h ∙ ap₂ indexAnswered is at
+  where
+    told-index : (a : IndexAnswer) → IndexTells a (λ told. told ≡ toHexmod made asked) → indexTold a ≡ indexAnswered made asked
+    told-index (IndexAnswer.Found i) h = answered-value (i .0) ∙ ap (λ (told : Told Index). answered (told .number) (told .value .0)) h
+    told-index (IndexAnswer.Refused n) h = answered-refused n 0 (h .0) ∙ ap (λ (told : Told Index). answered (told .number) (told .value .0)) (h .1)
 
 -- A list that was asked for of the centre that was made.
 told-list : (number : ℕ) (tiles : List Tile) (before after : List ℤ) (a : ListAnswer) (answer : ℤ) → answer ≡ tilesTold a → Lists number tiles before a after → ListCall number tiles before after answer

@@ -82,7 +82,7 @@ fn of_row_column(answer: RowColumnAnswer) -> PairTold
 }
 
 // Writes the pair, where it is not refused and the run has room for it.
-fn written(run: &mut [i32], told: PairTold) -> i64
+fn written(told: PairTold, run: &mut [i32]) -> i64
     ensures { λ r. ⌜ ListCall (told .number) (told .laid ∷ []) (now (run .entry)) (now (run .exit)) r ⌝ }
 {
     if told.number != 0 {
@@ -101,10 +101,8 @@ pub extern "C" fn kyrla_tile(cx: i32, cy: i32, radius: u32, at: u32, run: &mut [
     ensures { λ r. ⌜ PairCall (FromHexmod (mapAt cx cy radius) (index at)) ofTile (now (run .entry)) (now (run .exit)) r ⌝ }
 {
     let map = map_at(cx, cy, radius);
-    written(
-        run,
-        of_tile(storage::from_hexmod_coordinates(map, Index(at))),
-    )
+    let told = of_tile(storage::from_hexmod_coordinates(map, Index(at)));
+    written(told, run)
 }
 
 // The row and the column of a tile of a map, the row first.
@@ -120,10 +118,8 @@ pub extern "C" fn kyrla_row_column(
     ensures { λ r. ⌜ PairCall (λ told. told ≡ toRowColumn (mapAt cx cy radius) (tile x y)) ofRowColumn (now (run .entry)) (now (run .exit)) r ⌝ }
 {
     let map = map_at(cx, cy, radius);
-    written(
-        run,
-        of_row_column(storage::to_row_column(map, Tile { x, y })),
-    )
+    let told = of_row_column(storage::to_row_column(map, Tile { x, y }));
+    written(told, run)
 }
 
 // The tile of a map that has a row and a column.
@@ -139,10 +135,8 @@ pub extern "C" fn kyrla_tile_at(
     ensures { λ r. ⌜ PairCall (FromRowColumn (mapAt cx cy radius) (rowColumn row column)) ofTile (now (run .entry)) (now (run .exit)) r ⌝ }
 {
     let map = map_at(cx, cy, radius);
-    written(
-        run,
-        of_tile(storage::from_row_column(map, RowColumn { row, column })),
-    )
+    let told = of_tile(storage::from_row_column(map, RowColumn { row, column }));
+    written(told, run)
 }
 
 // The offset coordinates of a tile, the column first.
@@ -157,10 +151,8 @@ pub extern "C" fn kyrla_to_offset(
     ensures { λ r. ⌜ PairCall (λ told. told ≡ toOffset (tile x y) mode orientation) ofGrid (now (run .entry)) (now (run .exit)) r ⌝ }
 {
     let tile = Tile { x, y };
-    written(
-        run,
-        of_grid(conversions::to_offset_coordinates(tile, mode, orientation)),
-    )
+    let told = of_grid(conversions::to_offset_coordinates(tile, mode, orientation));
+    written(told, run)
 }
 
 // The tile that has a pair of offset coordinates.
@@ -175,10 +167,8 @@ pub extern "C" fn kyrla_from_offset(
     ensures { λ r. ⌜ PairCall (FromOffset (pair column row) mode orientation) ofTile (now (run .entry)) (now (run .exit)) r ⌝ }
 {
     let pair = GridPair { column, row };
-    written(
-        run,
-        of_tile(conversions::from_offset_coordinates(pair, mode, orientation)),
-    )
+    let told = of_tile(conversions::from_offset_coordinates(pair, mode, orientation));
+    written(told, run)
 }
 
 // The doubled coordinates of a tile, the column first.
@@ -187,10 +177,8 @@ pub extern "C" fn kyrla_to_doubled(x: i32, y: i32, mode: u32, run: &mut [i32]) -
     ensures { λ r. ⌜ PairCall (λ told. told ≡ toDoubled (tile x y) mode) ofGrid (now (run .entry)) (now (run .exit)) r ⌝ }
 {
     let tile = Tile { x, y };
-    written(
-        run,
-        of_grid(conversions::to_doubled_coordinates(tile, mode)),
-    )
+    let told = of_grid(conversions::to_doubled_coordinates(tile, mode));
+    written(told, run)
 }
 
 // The tile that has a pair of doubled coordinates.
@@ -199,8 +187,6 @@ pub extern "C" fn kyrla_from_doubled(column: i32, row: i32, mode: u32, run: &mut
     ensures { λ r. ⌜ PairCall (FromDoubled (pair column row) mode) ofTile (now (run .entry)) (now (run .exit)) r ⌝ }
 {
     let pair = GridPair { column, row };
-    written(
-        run,
-        of_tile(conversions::from_doubled_coordinates(pair, mode)),
-    )
+    let told = of_tile(conversions::from_doubled_coordinates(pair, mode));
+    written(told, run)
 }

@@ -1,14 +1,12 @@
 -- `kyrla_from_offset` meets its contract: the tile of the pair is asked for, and written.
-use mathlib.Core.Path.{ap₂}
 use mir.Syntax.{w64}
-use mir.Facts.{toZ-ofZ}
 use borrow.Author.Needs.{needs}
 use Rattle.whole.proofs.Machine.{read}
 use Rattle.hex.specs.Answers.{origin, tileAnswer}
-use Rattle.conversions.specs.Grid.{pair}
 use Rattle.conversions.specs.Offset.{FromOffset}
 use Rattle.conversions.specs.declared.GridPair.{GridPair}
 use Rattle.firmware.specs.Pairs.{ofTile}
+use Rattle.firmware.proofs.Calling.{read-grid}
 use Rattle.firmware.proofs.Answering.{pair-call}
 use Rattle.firmware.proofs.pairs.kyrla_from_offset.Statement.{statement}
 use Rattle.firmware.proofs.pairs.kyrla_from_offset.Tie as tie
@@ -28,11 +26,11 @@ same-length c = search needs
 returns : tie.Need-returns
 returns c =
     let w = c .before in
-    let p = w .before in
+    let p = w .before .before in
     let f = p .before in
-    let s = f .before .before in
+    let s = f .before in
     let a = s .args in
-    let asked = ap₂ pair (toZ-ofZ (s .fits .column)) (toZ-ofZ (s .fits .row)) in
+    let asked = read-grid (s .fits .column) (s .fits .row) in
     pair-call origin (λ (p : GridPair). FromOffset p (a .mode) (a .orientation)) ofTile asked (tileAnswer (f .from-offset-coordinates .result)) (f .from-offset-coordinates .ensures) (p .of-tile .ensures) (read w64 (w .written .result) (w .written .ok)) (w .written .ensures)
 
 pub kyrla-from-offset-spec : {M : Type 1} → statement M

@@ -4,7 +4,6 @@ use mathlib.Core.Bool.{Bool, true, false}
 use Prim.Native.Nat.{ℕ, zero, suc}
 use native.Mathlib.Omega.{arith}
 use mir.Syntax.{w64}
-use mir.Facts.{toZ-ofZ}
 use borrow.Author.Needs.{needs}
 use Rattle.whole.proofs.Machine.{read}
 use Rattle.hex.specs.Answers.{Told, accepted, refused, provided}
@@ -51,12 +50,12 @@ same-length c = search needs
 returns : tie.Need-returns
 returns c =
     let w = c .before in
-    let p = w .before in
+    let p = w .before .before in
     let f = p .before in
-    let m = f .before .before in
+    let m = f .before in
     let s = m .before in
-    let made = m .map-at .ensures ∙ read-map (s .args .radius) (toZ-ofZ (s .fits .cx)) (toZ-ofZ (s .fits .cy)) in
-    let asked = read-tile (toZ-ofZ (s .fits .x)) (toZ-ofZ (s .fits .y)) in
+    let made = m .map-at .ensures ∙ read-map (s .args .radius) (s .fits .cx) (s .fits .cy) in
+    let asked = read-tile (s .fits .x) (s .fits .y) in
     pair-call (rowColumn 0 0) (λ (v told : Told RowColumn). told ≡ v) ofRowColumn (ap₂ toRowColumn made asked) (rowColumnAnswer (f .to-row-column .result)) (f .to-row-column .ensures) (p .of-row-column .ensures) (read w64 (w .written .result) (w .written .ok)) (w .written .ensures)
 
 pub kyrla-row-column-spec : {M : Type 1} → statement M

@@ -1,7 +1,6 @@
 -- `kyrla_tile_at` meets its contract: the tile of the row and column is asked for, and written.
 use mathlib.Core.Path.{_∙_}
 use mir.Syntax.{w64}
-use mir.Facts.{toZ-ofZ}
 use borrow.Author.Needs.{needs}
 use Rattle.whole.proofs.Machine.{read}
 use Rattle.hex.specs.Answers.{origin, tileAnswer}
@@ -31,12 +30,12 @@ same-length c = search needs
 returns : tie.Need-returns
 returns c =
     let w = c .before in
-    let p = w .before in
+    let p = w .before .before in
     let f = p .before in
-    let m = f .before .before in
+    let m = f .before in
     let s = m .before in
     let a = s .args in
-    let made = m .map-at .ensures ∙ read-map (a .radius) (toZ-ofZ (s .fits .cx)) (toZ-ofZ (s .fits .cy)) in
+    let made = m .map-at .ensures ∙ read-map (a .radius) (s .fits .cx) (s .fits .cy) in
     pair-call origin (λ (m : Map). FromRowColumn m (rowColumn (a .row) (a .column))) ofTile made (tileAnswer (f .from-row-column .result)) (f .from-row-column .ensures) (p .of-tile .ensures) (read w64 (w .written .result) (w .written .ok)) (w .written .ensures)
 
 pub kyrla-tile-at-spec : {M : Type 1} → statement M

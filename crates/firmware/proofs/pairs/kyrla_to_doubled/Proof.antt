@@ -1,7 +1,6 @@
 -- `kyrla_to_doubled` meets its contract: the pair of the tile is asked for, and written.
 use mathlib.Core.Path.{_≡_}
 use mir.Syntax.{w64}
-use mir.Facts.{toZ-ofZ}
 use borrow.Author.Needs.{needs}
 use Rattle.whole.proofs.Machine.{read}
 use Rattle.hex.specs.Answers.{Told}
@@ -30,11 +29,11 @@ same-length c = search needs
 returns : tie.Need-returns
 returns c =
     let w = c .before in
-    let p = w .before in
+    let p = w .before .before in
     let f = p .before in
-    let s = f .before .before in
+    let s = f .before in
     let a = s .args in
-    let asked = read-tile (toZ-ofZ (s .fits .x)) (toZ-ofZ (s .fits .y)) in
+    let asked = read-tile (s .fits .x) (s .fits .y) in
     pair-call noPair (λ (t : Tile) (told : Told GridPair). told ≡ toDoubled t (a .mode)) ofGrid asked (gridAnswer (f .to-doubled-coordinates .result)) (f .to-doubled-coordinates .ensures) (p .of-grid .ensures) (read w64 (w .written .result) (w .written .ok)) (w .written .ensures)
 
 pub kyrla-to-doubled-spec : {M : Type 1} → statement M
