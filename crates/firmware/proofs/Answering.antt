@@ -5,9 +5,8 @@ use Prim.Native.Nat.{ℕ, zero, suc, _<_, _≤_}
 use native.Mathlib.Omega.{arith}
 use lib.IntN.{ℤ, pos}
 use lib.ListN.{length}
-use Rattle.hex.specs.Answers.{Told, Answer, found, refusal, Tells, accepted}
+use Rattle.hex.specs.Answers.{Told, Answer, found, refusal, Tells}
 use Rattle.hex.specs.Refusals.{runTooShort}
-use Rattle.hex.specs.Tiles.{tile}
 use Rattle.hex.specs.declared.Tile.{Tile}
 use Rattle.runs.specs.Runs.{Lists, Put}
 use Rattle.runs.specs.declared.ListAnswer.{ListAnswer}
@@ -20,7 +19,7 @@ use Rattle.storage.specs.declared.Map.{Map}
 use Rattle.firmware.specs.Calls.{minus, tilesTold}
 use Rattle.firmware.specs.Lists.{ListCall}
 use Rattle.firmware.specs.Numbers.{answered, indexTold, indexAnswered}
-use Rattle.firmware.specs.Pairs.{ofTile, toldBy, pairTold, PairCall}
+use Rattle.firmware.specs.Pairs.{toldBy, pairTold, PairCall}
 use Rattle.firmware.specs.declared.pairs.PairTold.{PairTold}
 
 -- With a refusal the value does not matter.
@@ -68,10 +67,6 @@ module _ (number : ℕ) (laid : Tile) (before : List ℤ) (answer : ℤ) where
 pub told-rule : {A : Type 0} (zeros : A) (rule : Told A → Type 0) (a : Answer A) → Tells zeros a rule → rule (toldBy zeros a)
 told-rule zeros rule (found a) h = h
 told-rule zeros rule (refusal n) h = h .1
-
--- A pair whose entries were read back.
-pub read-pair : {x x′ y y′ : ℤ} → x′ ≡ x → y′ ≡ y → pairTold ofTile (accepted (tile x′ y′)) ≡ pairTold ofTile (accepted (tile x y))
-read-pair p q = ap₂ (λ (x y : ℤ). pairTold ofTile (accepted (tile x y))) p q
 
 -- A pair that was asked for by what was made of the arguments, read from the answer, and written.
 pub pair-call : {A B : Type 0} (zeros : A) (rule : B → Told A → Type 0) (laid : A → Tile) {asked made : B} → made ≡ asked → (a : Answer A) {p : PairTold} {before after : List ℤ} {answer answer′ : ℤ} → Tells zeros a (rule made) → p ≡ pairTold laid (toldBy zeros a) → answer ≡ answer′ → ListCall (p .number) (p .laid ∷ []) before after answer′ → PairCall (rule asked) laid before after answer

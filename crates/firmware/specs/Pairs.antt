@@ -1,6 +1,6 @@
 -- What the calls for C that write a pair promise: what the calls below tell, with the pair laid in the lent run as a list of one tile is.
 use mathlib.Core.List.{List, [], _∷_}
-use Prim.Native.Nat.{_<_, _^_}
+use Prim.Native.Nat.{ℕ, _<_, _^_}
 use lib.IntN.{ℤ, pos}
 use Rattle.hex.specs.Answers.{Told, Answer, found, refusal, accepted, refused}
 use Rattle.hex.specs.Tiles.{tile}
@@ -26,10 +26,13 @@ pub record PairCall {A : Type 0} (rule : Told A → Type 0) (laid : A → Tile) 
   pub tells : rule told
   pub lists : ListCall (told .number) (laid (told .value) ∷ []) before after answer
 
--- The contracts of private functions cite what follows; no promise of a call does. What an answer tells, and the pair that is told.
+-- The contracts of private functions cite what follows; no promise of a call does. What an answer tells, a pair by its two entries, and the pair that is told.
 abbrev pub toldBy : {A : Type 0} → A → Answer A → Told A
 toldBy zeros (found a) = accepted a
 toldBy zeros (refusal n) = refused zeros n
+
+abbrev pub pairOf : ℕ → ℤ → ℤ → PairTold
+pairOf number first second = record { number = number; laid = tile first second }
 
 abbrev pub pairTold : {A : Type 0} → (A → Tile) → Told A → PairTold
 pairTold laid told = record { number = told .number; laid = laid (told .value) }
