@@ -1,5 +1,5 @@
 -- From what the calls of the field of movement and the route have told, over the map that was made, to what the calls for C promise.
-use mathlib.Core.Path.{_≡_, ap₂, subst, subst₂, _∙_}
+use mathlib.Core.Path.{_≡_, ap₂, subst, subst₂}
 use mathlib.Core.List.{List}
 use Prim.Native.Nat.{ℕ}
 use lib.IntN.{ℤ}
@@ -14,7 +14,7 @@ use Rattle.field_of_movement.specs.Calls.{Ranges, Checks}
 use Rattle.field_of_movement.specs.declared.Verdict.{Verdict}
 use Rattle.pathfinding.specs.Calls.{Routes}
 use Rattle.runs.specs.declared.ListAnswer.{ListAnswer}
-use Rattle.firmware.specs.Calls.{minus, mapAt, tilesTold, VerdictTold, RangeCall, CheckCall, RouteCall}
+use Rattle.firmware.specs.Calls.{minus, mapAt, noted, tilesTold, RangeCall, CheckCall, RouteCall}
 
 -- A tile, a map and a pair of a grid whose coordinates are read back from 32 bits.
 pub read-tile : {x y : ℤ} → SFits w32 x → SFits w32 y → tile (toZ w32 (ofZ w32 x)) (toZ w32 (ofZ w32 y)) ≡ tile x y
@@ -31,14 +31,14 @@ module _ {map made : Map} (is : made ≡ map) (efforts : List ℕ) {start asked 
   range-call before after number answer e told =
       record { number = number; answers = e; ranges = subst₂ (λ (m : Map) (s : Tile). Ranges m efforts s budget before after number) is from told }
 
-  pub check-call : (totals before after : List ℕ) (verdict : Verdict) {answer answer′ : ℤ} → answer ≡ answer′ → Checks made efforts asked budget totals (verdict .number) (verdict .broken .0) → VerdictTold verdict before after answer′ → CheckCall map efforts start budget totals before after answer
-  check-call totals before after verdict e checked told =
+  pub check-call : (totals before after : List ℕ) (verdict : Verdict) (answer : ℤ) → answer ≡ minus (verdict .number) → Checks made efforts asked budget totals (verdict .number) (verdict .broken .0) → after ≡ noted (verdict .number) (verdict .broken .0) before → CheckCall map efforts start budget totals before after answer
+  check-call totals before after verdict answer e told notes =
       record {
         number = verdict .number;
         index = verdict .broken .0;
-        answers = e ∙ told .answers;
-        checks = subst₂ (λ (m : Map) (s : Tile). Checks m efforts s budget totals (verdict .number) (verdict .broken .0)) is from checked;
-        notes = told .notes;
+        answers = e;
+        checks = subst₂ (λ (m : Map) (s : Tile). Checks m efforts s budget totals (verdict .number) (verdict .broken .0)) is from told;
+        notes = notes;
       }
 
 pub route-call : {map made : Map} (is : made ≡ map) (efforts : List ℕ) {start asked : Tile} (from : asked ≡ start) {end sought : Tile} (to : sought ≡ end) (before after : List ℕ) (entry exit : List ℤ) (list : ListAnswer) (answer : ℤ)

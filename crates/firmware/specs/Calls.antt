@@ -12,7 +12,6 @@ use Rattle.hex.specs.Tiles.{tile}
 use Rattle.hex.specs.declared.Tile.{Tile}
 use Rattle.storage.specs.declared.Map.{Map}
 use Rattle.field_of_movement.specs.Calls.{Ranges, Checks}
-use Rattle.field_of_movement.specs.declared.Verdict.{Verdict}
 use Rattle.pathfinding.specs.Calls.{Routes}
 use Rattle.runs.specs.declared.ListAnswer.{ListAnswer}
 
@@ -51,8 +50,3 @@ pub record RouteCall (map : Map) (efforts : List ℕ) (start end : Tile) (before
   pub list : ListAnswer
   pub answers : answer ≡ tilesTold list
   pub routes : Routes map efforts start end before entry list after exit
-
--- What is told of a verdict, and noted. The contract of a private function cites this; no promise of a call does.
-pub record VerdictTold (verdict : Verdict) (before after : List ℕ) (answer : ℤ) : Type 0 where
-  pub answers : answer ≡ minus (verdict .number)
-  pub notes : after ≡ noted (verdict .number) (verdict .broken .0) before

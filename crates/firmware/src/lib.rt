@@ -7,7 +7,7 @@ mod pairs;
 
 ghost use mathlib.Core.Path.{_≡_};
 ghost use Rattle.hex.specs.Tiles.{tile};
-ghost use Rattle.firmware.specs.Calls.{minus, mapAt, noted, VerdictTold, RangeCall, CheckCall, RouteCall};
+ghost use Rattle.firmware.specs.Calls.{minus, mapAt, noted, RangeCall, CheckCall, RouteCall};
 use field_of_movement::Verdict;
 use hex::Tile;
 use hex::refusals;
@@ -45,7 +45,8 @@ fn note(broken: &mut [u32], number: u32, index: u32)
 
 // What the totals check has answered, as C is told it, with a broken index written down.
 fn verdict_told(verdict: Verdict, broken: &mut [u32]) -> i64
-    ensures { λ r. ⌜ VerdictTold verdict (now (broken .entry)) (now (broken .exit)) r ⌝ }
+    ensures { λ r. ⌜ r ≡ minus (verdict .number) ⌝ }
+    ensures { λ _. ⌜ now (broken .exit) ≡ noted (verdict .number) (verdict .broken .0) (now (broken .entry)) ⌝ }
 {
     note(broken, verdict.number, verdict.broken.0);
     told(verdict.number)

@@ -29,7 +29,8 @@ returns c =
     let a = s .args in
     let made = m .map-at .ensures ∙ read-map (a .radius) (s .fits .cx) (s .fits .cy) in
     let from = read-tile (s .fits .sx) (s .fits .sy) in
-    check-call made (now (a .efforts)) from (a .budget) (now (a .totals)) (now (a .broken)) _ (k .check-totals .result) (read w64 (v .verdict-told .result) (v .verdict-told .ok)) (k .check-totals .ensures) (v .verdict-told .ensures)
+    let answer = read w64 (v .verdict-told .result) (v .verdict-told .ok) ∙ v .verdict-told .ensures .0 in
+    check-call made (now (a .efforts)) from (a .budget) (now (a .totals)) (now (a .broken)) _ (k .check-totals .result) _ answer (k .check-totals .ensures) (v .verdict-told .ensures .1)
 
 pub kyrla-check-spec : {M : Type 1} → statement M
 kyrla-check-spec = tie.close (tie.spec map-at-requires check-totals-requires verdict-told-requires same-length returns)
