@@ -18,8 +18,9 @@ use Rattle.storage.specs.declared.IndexAnswer.{IndexAnswer}
 use Rattle.storage.specs.declared.Map.{Map}
 use Rattle.firmware.specs.Calls.{minus, tilesTold}
 use Rattle.firmware.specs.Lists.{ListCall}
-use Rattle.firmware.specs.Numbers.{answered, indexAnswered}
-use Rattle.firmware.specs.Pairs.{toldBy, PairCall}
+use Rattle.firmware.specs.Numbers.{answered, indexTold, indexAnswered}
+use Rattle.firmware.specs.Pairs.{toldBy, pairTold, PairCall}
+use Rattle.firmware.specs.declared.pairs.PairTold.{PairTold}
 
 -- With a refusal the value does not matter.
 answered-refused : (number value : ℕ) → 0 < number → minus number ≡ answered number value
@@ -32,17 +33,13 @@ answered-value : (value : ℕ) → pos value ≡ answered 0 value
 unfolding answered
 answered-value value = refl
 
-module _ {map made : Map} (is : made ≡ map) {t asked : Tile} (at : asked ≡ t) where
-  as-answered : {told : Told Index} → told ≡ toHexmod made asked → answered (told .number) (told .value .0) ≡ indexAnswered map t
-  as-answered e = ap (λ (told : Told Index). answered (told .number) (told .value .0)) (e ∙ ap₂ toHexmod is at)
-
-  pub index-found : {a : IndexAnswer} (i : Index) → a ≡ IndexAnswer.Found i → IndexTells a (λ told. told ≡ toHexmod made asked) → pos (i .0) ≡ indexAnswered map t
-  index-found i e h = answered-value (i .0) ∙ as-answered (subst (λ (r : IndexAnswer). IndexTells r (λ told. told ≡ toHexmod made asked)) e h)
-
-  pub index-refused : {a : IndexAnswer} (number : ℕ) → a ≡ IndexAnswer.Refused number → IndexTells a (λ told. told ≡ toHexmod made asked) → minus number ≡ indexAnswered map t
-  index-refused number e h =
-      let k = subst (λ (r : IndexAnswer). IndexTells r (λ told. told ≡ toHexmod made asked)) e h in
-      answered-refused number 0 (k .0) ∙ as-answered (k .1)
+-- An index that was asked for of the map and the tile that were made.
+pub index-call : {map made : Map} → made ≡ map → {t asked : Tile} → asked ≡ t → (a : IndexAnswer) → IndexTells a (λ told. told ≡ toHexmod made asked) → indexTold a ≡ indexAnswered map t
+index-call {map} {made} is {t} {asked} at a h = told-index a h ∙ ap₂ indexAnswered is at
+  where
+    told-index : (a : IndexAnswer) → IndexTells a (λ told. told ≡ toHexmod made asked) → indexTold a ≡ indexAnswered made asked
+    told-index (IndexAnswer.Found i) h = answered-value (i .0) ∙ ap (λ (told : Told Index). answered (told .number) (told .value .0)) h
+    told-index (IndexAnswer.Refused n) h = answered-refused n 0 (h .0) ∙ ap (λ (told : Told Index). answered (told .number) (told .value .0)) (h .1)
 
 -- A list that was asked for of the centre that was made.
 told-list : (number : ℕ) (tiles : List Tile) (before after : List ℤ) (a : ListAnswer) (answer : ℤ) → answer ≡ tilesTold a → Lists number tiles before a after → ListCall number tiles before after answer
@@ -67,21 +64,15 @@ module _ (number : ℕ) (laid : Tile) (before : List ℤ) (answer : ℤ) where
   pair-laid z h put e = told-list _ _ _ _ (ListAnswer.Listed 1) answer e (listed-all number (laid ∷ []) before refl z refl h (laid-put before 0 laid laid h refl put))
 
 -- What an answer tells is what its rule holds of.
-told-rule : {A : Type 0} (zeros : A) (rule : Told A → Type 0) (a : Answer A) → Tells zeros a rule → rule (toldBy zeros a)
+pub told-rule : {A : Type 0} (zeros : A) (rule : Told A → Type 0) (a : Answer A) → Tells zeros a rule → rule (toldBy zeros a)
 told-rule zeros rule (found a) h = h
 told-rule zeros rule (refusal n) h = h .1
 
--- A pair that was written for one case of an answer.
-pub as-told : {A R : Type 0} (told : R → Told A) (laid : A → Tile) {a b : R} {answer answer′ : ℤ} {before after : List ℤ} {t : Tile} → a ≡ b → answer ≡ answer′ → t ≡ laid (told b .value) → ListCall (told b .number) (t ∷ []) before after answer′ → ListCall (told a .number) (laid (told a .value) ∷ []) before after answer
-as-told {A} {R} told laid {a} {b} {answer} {answer′} {before} {after} e f g h =
-    let l = subst (λ (u : Tile). ListCall (told b .number) (u ∷ []) before after answer′) g h in
-    subst₂ (λ (r : R) (z : ℤ). ListCall (told r .number) (laid (told r .value) ∷ []) before after z) (sym e) (sym f) l
-
--- A pair that was asked for by what was made of the arguments.
-pub pair-call : {A B : Type 0} (zeros : A) (rule : B → Told A → Type 0) (laid : A → Tile) {asked made : B} → made ≡ asked → (a : Answer A) {before after : List ℤ} {answer answer′ : ℤ} → Tells zeros a (rule made) → answer ≡ answer′ → ListCall (toldBy zeros a .number) (laid (toldBy zeros a .value) ∷ []) before after answer′ → PairCall (rule asked) laid before after answer
-pair-call {A} {B} zeros rule laid {asked} {made} is a {before} {after} h e l =
+-- A pair that was asked for by what was made of the arguments, read from the answer, and written.
+pub pair-call : {A B : Type 0} (zeros : A) (rule : B → Told A → Type 0) (laid : A → Tile) {asked made : B} → made ≡ asked → (a : Answer A) {p : PairTold} {before after : List ℤ} {answer answer′ : ℤ} → Tells zeros a (rule made) → p ≡ pairTold laid (toldBy zeros a) → answer ≡ answer′ → ListCall (p .number) (p .laid ∷ []) before after answer′ → PairCall (rule asked) laid before after answer
+pair-call {A} {B} zeros rule laid {asked} {made} is a {before} {after} h told e l =
     record {
       told = toldBy zeros a;
       tells = subst (λ (b : B). rule b (toldBy zeros a)) is (told-rule zeros (rule made) a h);
-      lists = subst (λ (z : ℤ). ListCall (toldBy zeros a .number) (laid (toldBy zeros a .value) ∷ []) before after z) (sym e) l;
+      lists = subst₂ (λ (p : PairTold) (z : ℤ). ListCall (p .number) (p .laid ∷ []) before after z) told (sym e) l;
     }

@@ -8,6 +8,7 @@ mod pairs;
 ghost use mathlib.Core.Path.{_≡_};
 ghost use Rattle.hex.specs.Tiles.{tile};
 ghost use Rattle.firmware.specs.Calls.{minus, mapAt, noted, RangeCall, CheckCall, RouteCall};
+use field_of_movement::Verdict;
 use hex::Tile;
 use hex::refusals;
 use storage::Map;
@@ -40,6 +41,15 @@ fn note(broken: &mut [u32], number: u32, index: u32)
         return;
     }
     broken[0] = index;
+}
+
+// What the totals check has answered, as C is told it, with a broken index written down.
+fn verdict_told(verdict: Verdict, broken: &mut [u32]) -> i64
+    ensures { λ r. ⌜ r ≡ minus (verdict .number) ⌝ }
+    ensures { λ _. ⌜ now (broken .exit) ≡ noted (verdict .number) (verdict .broken .0) (now (broken .entry)) ⌝ }
+{
+    note(broken, verdict.number, verdict.broken.0);
+    told(verdict.number)
 }
 
 // The riding range, written to `totals` by dense index.
@@ -79,8 +89,7 @@ pub extern "C" fn kyrla_check(
     let map = map_at(cx, cy, radius);
     let start = Tile { x: sx, y: sy };
     let verdict = field_of_movement::check_totals(map, efforts, start, budget, totals);
-    note(broken, verdict.number, verdict.broken.0);
-    told(verdict.number)
+    verdict_told(verdict, broken)
 }
 
 // The best route, its tiles written to `run`, x then y, and the rank of every tile to the end written to `ranks` by dense index. It answers the number of tiles.

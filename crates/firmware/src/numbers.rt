@@ -9,7 +9,7 @@ ghost use lib.IntN.{pos};
 ghost use Rattle.hex.specs.Tiles.{tile, distanceOf};
 ghost use Rattle.rings.specs.Counts.{ringCount, wedgeCount};
 ghost use Rattle.firmware.specs.Calls.{mapAt};
-ghost use Rattle.firmware.specs.Numbers.{indexAnswered};
+ghost use Rattle.firmware.specs.Numbers.{indexTold, indexAnswered};
 
 // The distance of any two tiles. It is never refused.
 #[no_mangle]
@@ -21,16 +21,23 @@ pub extern "C" fn kyrla_distance(ax: i32, ay: i32, bx: i32, by: i32) -> i64
     hex::distance(a, b) as i64
 }
 
+// What a call that finds an index has answered, as C is told it.
+fn index_told(answer: IndexAnswer) -> i64
+    ensures { λ r. ⌜ r ≡ indexTold answer ⌝ }
+{
+    match answer {
+        IndexAnswer::Found(index) => index.0 as i64,
+        IndexAnswer::Refused(number) => told(number),
+    }
+}
+
 // The dense index of a tile of a map.
 #[no_mangle]
 pub extern "C" fn kyrla_index(cx: i32, cy: i32, radius: u32, x: i32, y: i32) -> i64
     ensures { λ r. ⌜ r ≡ indexAnswered (mapAt cx cy radius) (tile x y) ⌝ }
 {
     let map = map_at(cx, cy, radius);
-    match storage::to_hexmod_coordinates(map, Tile { x, y }) {
-        IndexAnswer::Found(index) => index.0 as i64,
-        IndexAnswer::Refused(number) => told(number),
-    }
+    index_told(storage::to_hexmod_coordinates(map, Tile { x, y }))
 }
 
 // How many tiles a ring has.

@@ -14,54 +14,77 @@ ghost use mathlib.Core.Path.{_≡_};
 ghost use mathlib.Core.List.{[], _∷_};
 ghost use Rattle.hex.specs.Answers.{origin, tileAnswer};
 ghost use Rattle.hex.specs.Tiles.{tile};
-ghost use Rattle.storage.specs.Hexagonal.{rowColumn, toRowColumn, FromRowColumn};
+ghost use Rattle.storage.specs.Hexagonal.{rowColumn, rowColumnAnswer, toRowColumn, FromRowColumn};
 ghost use Rattle.storage.specs.Hexmod.{index, FromHexmod};
 ghost use Rattle.conversions.specs.Grid.{pair, noPair, gridAnswer};
 ghost use Rattle.conversions.specs.Offset.{toOffset, FromOffset};
 ghost use Rattle.conversions.specs.Doubled.{toDoubled, FromDoubled};
 ghost use Rattle.firmware.specs.Calls.{mapAt};
 ghost use Rattle.firmware.specs.Lists.{ListCall};
-ghost use Rattle.firmware.specs.Pairs.{ofTile, ofGrid, ofRowColumn, toldBy, PairCall};
+ghost use Rattle.firmware.specs.Pairs.{ofTile, ofGrid, ofRowColumn, toldBy, pairOf, pairTold, Signed, PairCall};
 
-// Writes a pair, named as a tile's coordinates are, where the arguments are not refused by `number` and the run has room for it.
-fn written(run: &mut [i32], number: u32, laid: Tile) -> i64
-    ensures { λ r. ⌜ ListCall number (laid ∷ []) (now (run .entry)) (now (run .exit)) r ⌝ }
+// A pair that a call tells, named as a tile's coordinates are. Where the arguments are refused, it is the number of the refusal and zeros; number 0 is no refusal.
+struct PairTold {
+    number: u32,
+    laid: Tile,
+}
+
+// A pair by its two entries, or a refusal with zeros.
+fn pair_of(number: u32, first: i32, second: i32) -> PairTold
+    ensures { λ r. ⌜ r ≡ pairOf number first second ⌝ }
 {
-    if number != 0 {
-        return told(number);
+    PairTold {
+        number,
+        laid: Tile {
+            x: first,
+            y: second,
+        },
+    }
+}
+
+// The pair of a tile.
+fn of_tile(answer: TileAnswer) -> PairTold
+    ensures { λ r. ⌜ r ≡ pairTold ofTile (toldBy origin (tileAnswer answer)) ⌝ }
+{
+    match answer {
+        TileAnswer::Found(tile) => pair_of(0, tile.x, tile.y),
+        TileAnswer::Refused(number) => pair_of(number, 0, 0),
+    }
+}
+
+// The pair of a grid, its column first.
+fn of_grid(answer: GridAnswer) -> PairTold
+    ensures { λ r. ⌜ r ≡ pairTold ofGrid (toldBy noPair (gridAnswer answer)) ⌝ }
+{
+    match answer {
+        GridAnswer::Found(found) => pair_of(0, found.column, found.row),
+        GridAnswer::Refused(number) => pair_of(number, 0, 0),
+    }
+}
+
+// The pair of a row and a column, the row first.
+fn of_row_column(answer: RowColumnAnswer) -> PairTold
+    requires { ⌜ Signed (toldBy (rowColumn 0 0) (rowColumnAnswer answer) .value) ⌝ }
+    ensures { λ r. ⌜ r ≡ pairTold ofRowColumn (toldBy (rowColumn 0 0) (rowColumnAnswer answer)) ⌝ }
+{
+    match answer {
+        RowColumnAnswer::Found(at) => pair_of(0, at.row as i32, at.column as i32),
+        RowColumnAnswer::Refused(number) => pair_of(number, 0, 0),
+    }
+}
+
+// Writes the pair, where it is not refused and the run has room for it.
+fn written(pair: PairTold, run: &mut [i32]) -> i64
+    ensures { λ r. ⌜ ListCall (pair .number) (pair .laid ∷ []) (now (run .entry)) (now (run .exit)) r ⌝ }
+{
+    if pair.number != 0 {
+        return told(pair.number);
     }
     if run.len() < 2 {
         return told(refusals::RUN_TOO_SHORT);
     }
-    runs::put(run, 0, laid);
+    runs::put(run, 0, pair.laid);
     1
-}
-
-// Writes the tile that was found.
-fn tile_written(run: &mut [i32], answer: TileAnswer) -> i64
-    ensures { λ r. ⌜ ListCall (toldBy origin (tileAnswer answer) .number) (toldBy origin (tileAnswer answer) .value ∷ []) (now (run .entry)) (now (run .exit)) r ⌝ }
-{
-    match answer {
-        TileAnswer::Found(tile) => written(run, 0, tile),
-        TileAnswer::Refused(number) => written(run, number, Tile { x: 0, y: 0 }),
-    }
-}
-
-// Writes the pair of a grid that was found, its column first.
-fn grid_written(run: &mut [i32], answer: GridAnswer) -> i64
-    ensures { λ r. ⌜ ListCall (toldBy noPair (gridAnswer answer) .number) (ofGrid (toldBy noPair (gridAnswer answer) .value) ∷ []) (now (run .entry)) (now (run .exit)) r ⌝ }
-{
-    match answer {
-        GridAnswer::Found(pair) => written(
-            run,
-            0,
-            Tile {
-                x: pair.column,
-                y: pair.row,
-            },
-        ),
-        GridAnswer::Refused(number) => written(run, number, Tile { x: 0, y: 0 }),
-    }
 }
 
 // The tile of a map that has an index.
@@ -70,7 +93,8 @@ pub extern "C" fn kyrla_tile(cx: i32, cy: i32, radius: u32, at: u32, run: &mut [
     ensures { λ r. ⌜ PairCall (FromHexmod (mapAt cx cy radius) (index at)) ofTile (now (run .entry)) (now (run .exit)) r ⌝ }
 {
     let map = map_at(cx, cy, radius);
-    tile_written(run, storage::from_hexmod_coordinates(map, Index(at)))
+    let pair = of_tile(storage::from_hexmod_coordinates(map, Index(at)));
+    written(pair, run)
 }
 
 // The row and the column of a tile of a map, the row first.
@@ -86,17 +110,8 @@ pub extern "C" fn kyrla_row_column(
     ensures { λ r. ⌜ PairCall (λ told. told ≡ toRowColumn (mapAt cx cy radius) (tile x y)) ofRowColumn (now (run .entry)) (now (run .exit)) r ⌝ }
 {
     let map = map_at(cx, cy, radius);
-    match storage::to_row_column(map, Tile { x, y }) {
-        RowColumnAnswer::Found(at) => written(
-            run,
-            0,
-            Tile {
-                x: at.row as i32,
-                y: at.column as i32,
-            },
-        ),
-        RowColumnAnswer::Refused(number) => written(run, number, Tile { x: 0, y: 0 }),
-    }
+    let pair = of_row_column(storage::to_row_column(map, Tile { x, y }));
+    written(pair, run)
 }
 
 // The tile of a map that has a row and a column.
@@ -112,10 +127,8 @@ pub extern "C" fn kyrla_tile_at(
     ensures { λ r. ⌜ PairCall (FromRowColumn (mapAt cx cy radius) (rowColumn row column)) ofTile (now (run .entry)) (now (run .exit)) r ⌝ }
 {
     let map = map_at(cx, cy, radius);
-    tile_written(
-        run,
-        storage::from_row_column(map, RowColumn { row, column }),
-    )
+    let pair = of_tile(storage::from_row_column(map, RowColumn { row, column }));
+    written(pair, run)
 }
 
 // The offset coordinates of a tile, the column first.
@@ -130,10 +143,8 @@ pub extern "C" fn kyrla_to_offset(
     ensures { λ r. ⌜ PairCall (λ told. told ≡ toOffset (tile x y) mode orientation) ofGrid (now (run .entry)) (now (run .exit)) r ⌝ }
 {
     let tile = Tile { x, y };
-    grid_written(
-        run,
-        conversions::to_offset_coordinates(tile, mode, orientation),
-    )
+    let pair = of_grid(conversions::to_offset_coordinates(tile, mode, orientation));
+    written(pair, run)
 }
 
 // The tile that has a pair of offset coordinates.
@@ -147,11 +158,9 @@ pub extern "C" fn kyrla_from_offset(
 ) -> i64
     ensures { λ r. ⌜ PairCall (FromOffset (pair column row) mode orientation) ofTile (now (run .entry)) (now (run .exit)) r ⌝ }
 {
-    let pair = GridPair { column, row };
-    tile_written(
-        run,
-        conversions::from_offset_coordinates(pair, mode, orientation),
-    )
+    let asked = GridPair { column, row };
+    let pair = of_tile(conversions::from_offset_coordinates(asked, mode, orientation));
+    written(pair, run)
 }
 
 // The doubled coordinates of a tile, the column first.
@@ -160,7 +169,8 @@ pub extern "C" fn kyrla_to_doubled(x: i32, y: i32, mode: u32, run: &mut [i32]) -
     ensures { λ r. ⌜ PairCall (λ told. told ≡ toDoubled (tile x y) mode) ofGrid (now (run .entry)) (now (run .exit)) r ⌝ }
 {
     let tile = Tile { x, y };
-    grid_written(run, conversions::to_doubled_coordinates(tile, mode))
+    let pair = of_grid(conversions::to_doubled_coordinates(tile, mode));
+    written(pair, run)
 }
 
 // The tile that has a pair of doubled coordinates.
@@ -168,6 +178,7 @@ pub extern "C" fn kyrla_to_doubled(x: i32, y: i32, mode: u32, run: &mut [i32]) -
 pub extern "C" fn kyrla_from_doubled(column: i32, row: i32, mode: u32, run: &mut [i32]) -> i64
     ensures { λ r. ⌜ PairCall (FromDoubled (pair column row) mode) ofTile (now (run .entry)) (now (run .exit)) r ⌝ }
 {
-    let pair = GridPair { column, row };
-    tile_written(run, conversions::from_doubled_coordinates(pair, mode))
+    let asked = GridPair { column, row };
+    let pair = of_tile(conversions::from_doubled_coordinates(asked, mode));
+    written(pair, run)
 }

@@ -2,7 +2,6 @@
 use mathlib.Core.Path.{_∙_}
 use denote.Ref.{now}
 use mir.Syntax.{w64}
-use mir.Facts.{toZ-ofZ}
 use borrow.Author.Needs.{needs}
 use Rattle.whole.proofs.Machine.{read}
 use Rattle.firmware.proofs.Calling.{read-map, read-tile, range-call}
@@ -27,8 +26,8 @@ returns c =
     let m = r .before .before in
     let s = m .before .before .before in
     let a = s .args in
-    let made = m .map-at .ensures ∙ read-map (a .radius) (toZ-ofZ (s .fits .cx)) (toZ-ofZ (s .fits .cy)) in
-    let from = read-tile (toZ-ofZ (s .fits .sx)) (toZ-ofZ (s .fits .sy)) in
+    let made = m .map-at .ensures ∙ read-map (a .radius) (s .fits .cx) (s .fits .cy) in
+    let from = read-tile (s .fits .sx) (s .fits .sy) in
     let answer = read w64 (c .told .result) (c .told .ok) ∙ c .told .ensures in
     range-call made (now (a .efforts)) from (a .budget) (now (a .totals)) _ (r .riding-range .result) _ answer (r .riding-range .ensures)
 

@@ -2,7 +2,6 @@
 use mathlib.Core.Path.{_∙_}
 use denote.Ref.{now}
 use mir.Syntax.{w64}
-use mir.Facts.{toZ-ofZ}
 use Rattle.whole.proofs.Machine.{read}
 use Rattle.firmware.proofs.Calling.{read-map, read-tile, route-call}
 use borrow.Author.Needs.{needs}
@@ -30,9 +29,9 @@ returns c =
     let m = r .before .before .before in
     let s = m .before .before .before in
     let a = s .args in
-    let made = m .map-at .ensures ∙ read-map (a .radius) (toZ-ofZ (s .fits .cx)) (toZ-ofZ (s .fits .cy)) in
-    let from = read-tile (toZ-ofZ (s .fits .sx)) (toZ-ofZ (s .fits .sy)) in
-    let to = read-tile (toZ-ofZ (s .fits .ex)) (toZ-ofZ (s .fits .ey)) in
+    let made = m .map-at .ensures ∙ read-map (a .radius) (s .fits .cx) (s .fits .cy) in
+    let from = read-tile (s .fits .sx) (s .fits .sy) in
+    let to = read-tile (s .fits .ex) (s .fits .ey) in
     let answer = read w64 (c .tiles-told .result) (c .tiles-told .ok) ∙ c .tiles-told .ensures in
     route-call made (now (a .efforts)) from to (now (a .ranks)) _ (now (a .run)) _ (r .route .result) _ answer (r .route .ensures)
 

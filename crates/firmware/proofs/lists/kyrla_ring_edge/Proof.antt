@@ -2,7 +2,6 @@
 use mathlib.Core.Path.{_∙_}
 use denote.Ref.{now}
 use mir.Syntax.{w64}
-use mir.Facts.{toZ-ofZ}
 use borrow.Author.Needs.{needs}
 use Rattle.whole.proofs.Machine.{read}
 use Rattle.hex.specs.declared.Tile.{Tile}
@@ -27,7 +26,7 @@ returns c =
     let l = c .before .before in
     let s = l .before .before in
     let a = s .args in
-    let centre = read-tile (toZ-ofZ (s .fits .cx)) (toZ-ofZ (s .fits .cy)) in
+    let centre = read-tile (s .fits .cx) (s .fits .cy) in
     let answer = read w64 (c .tiles-told .result) (c .tiles-told .ok) ∙ c .tiles-told .ensures in
     list-call (λ (t : Tile). refusalOf t (a .range) (a .range) (a .vertex) (a .sense)) (λ (t : Tile). edge t (a .vertex) (a .sense) (a .range)) centre (now (a .run)) _ _ _ answer (l .ring-edge .ensures)
 

@@ -5,7 +5,7 @@ use native.Mathlib.Omega.{arith}
 use lib.IntN.{ℤ, pos, natAbs, _+ℤ_, _-ℤ_}
 use mir.Syntax.{w32, w64}
 use mir.Val.{SFits}
-use mir.Facts.{toZ-ofZ, toZ-pos}
+use mir.Facts.{toZ-pos}
 use borrow.Author.Needs.{needs}
 use Rattle.whole.proofs.Differences.{by2}
 use Rattle.whole.proofs.Kit.{dif-b}
@@ -31,7 +31,7 @@ distance-small a b ax ay bx by =
 as-asked : (c : tie.After-distance) → c .distance .result ≡ distanceOf (tile (c .before .args .ax) (c .before .args .ay)) (tile (c .before .args .bx) (c .before .args .by))
 as-asked c =
     let f = c .before .fits in
-    c .distance .ensures ∙ ap₂ distanceOf (read-tile (toZ-ofZ (f .ax)) (toZ-ofZ (f .ay))) (read-tile (toZ-ofZ (f .bx)) (toZ-ofZ (f .by)))
+    c .distance .ensures ∙ ap₂ distanceOf (read-tile (f .ax) (f .ay)) (read-tile (f .bx) (f .by))
 
 distance-requires : tie.Need-distance-requires
 distance-requires c κs = search needs

@@ -1,11 +1,10 @@
--- `kyrla_index` meets its contract: the index that was found is told, or minus the refusal.
+-- `kyrla_index` meets its contract: the index is asked for, and its answer told.
 use mathlib.Core.Path.{_∙_}
 use mir.Syntax.{w64}
-use mir.Facts.{toZ-ofZ, toZ-pos}
 use borrow.Author.Needs.{needs}
 use Rattle.whole.proofs.Machine.{read}
 use Rattle.firmware.proofs.Calling.{read-map, read-tile}
-use Rattle.firmware.proofs.Answering.{index-found, index-refused}
+use Rattle.firmware.proofs.Answering.{index-call}
 use Rattle.firmware.proofs.numbers.kyrla_index.Statement.{statement}
 use Rattle.firmware.proofs.numbers.kyrla_index.Tie as tie
 
@@ -15,47 +14,17 @@ map-at-requires c κs = search needs
 to-hexmod-coordinates-requires : tie.Need-to-hexmod-coordinates-requires
 to-hexmod-coordinates-requires c κs = search needs
 
-enum-known-index : tie.Need-enum-known-index
-enum-known-index c = search needs
-
-cast-result : tie.Need-cast-result
-cast-result c = search needs
-
-enum-known-number : tie.Need-enum-known-number
-enum-known-number c = search needs
-
-told-requires : tie.Need-told-requires
-told-requires c κs = search needs
+index-told-requires : tie.Need-index-told-requires
+index-told-requires c κs = search needs
 
 returns : tie.Need-returns
 returns c =
-    let i = c .before .before in
-    let t = i .before .before in
+    let t = c .before in
     let m = t .before in
     let s = m .before in
-    let made = m .map-at .ensures ∙ read-map (s .args .radius) (toZ-ofZ (s .fits .cx)) (toZ-ofZ (s .fits .cy)) in
-    let asked = read-tile (toZ-ofZ (s .fits .x)) (toZ-ofZ (s .fits .y)) in
-    toZ-pos w64 (cast-result c .sfits) ∙ index-found made asked _ (i .index .given .1) (t .to-hexmod-coordinates .ensures)
-
-returns-2 : tie.Need-returns-2
-returns-2 c =
-    let n = c .before .before in
-    let t = n .before .before in
-    let m = t .before in
-    let s = m .before in
-    let made = m .map-at .ensures ∙ read-map (s .args .radius) (toZ-ofZ (s .fits .cx)) (toZ-ofZ (s .fits .cy)) in
-    let asked = read-tile (toZ-ofZ (s .fits .x)) (toZ-ofZ (s .fits .y)) in
-    read w64 (c .told .result) (c .told .ok) ∙ c .told .ensures ∙ index-refused made asked _ (n .number .given .1) (t .to-hexmod-coordinates .ensures)
+    let made = m .map-at .ensures ∙ read-map (s .args .radius) (s .fits .cx) (s .fits .cy) in
+    let asked = read-tile (s .fits .x) (s .fits .y) in
+    read w64 (c .index-told .result) (c .index-told .ok) ∙ c .index-told .ensures ∙ index-call made asked (t .to-hexmod-coordinates .result) (t .to-hexmod-coordinates .ensures)
 
 pub kyrla-index-spec : {M : Type 1} → statement M
-kyrla-index-spec =
-    tie.close
-    (tie.spec
-    map-at-requires
-    to-hexmod-coordinates-requires
-    enum-known-index
-    cast-result
-    enum-known-number
-    told-requires
-    returns
-    returns-2)
+kyrla-index-spec = tie.close (tie.spec map-at-requires to-hexmod-coordinates-requires index-told-requires returns)

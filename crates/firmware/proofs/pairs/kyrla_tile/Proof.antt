@@ -1,7 +1,6 @@
 -- `kyrla_tile` meets its contract: the tile of the index is asked for, and written.
 use mathlib.Core.Path.{_∙_}
 use mir.Syntax.{w64}
-use mir.Facts.{toZ-ofZ}
 use borrow.Author.Needs.{needs}
 use Rattle.whole.proofs.Machine.{read}
 use Rattle.hex.specs.Answers.{origin, tileAnswer}
@@ -19,8 +18,11 @@ map-at-requires c κs = search needs
 from-hexmod-coordinates-requires : tie.Need-from-hexmod-coordinates-requires
 from-hexmod-coordinates-requires c κs = search needs
 
-tile-written-requires : tie.Need-tile-written-requires
-tile-written-requires c κs = search needs
+of-tile-requires : tie.Need-of-tile-requires
+of-tile-requires c κs = search needs
+
+written-requires : tie.Need-written-requires
+written-requires c κs = search needs
 
 same-length : tie.Need-same-length
 same-length c = search needs
@@ -28,12 +30,13 @@ same-length c = search needs
 returns : tie.Need-returns
 returns c =
     let w = c .before in
-    let f = w .before in
-    let m = f .before .before in
+    let p = w .before .before in
+    let f = p .before in
+    let m = f .before in
     let s = m .before in
     let a = s .args in
-    let made = m .map-at .ensures ∙ read-map (a .radius) (toZ-ofZ (s .fits .cx)) (toZ-ofZ (s .fits .cy)) in
-    pair-call origin (λ (m : Map). FromHexmod m (index (a .at))) ofTile made (tileAnswer (f .from-hexmod-coordinates .result)) (f .from-hexmod-coordinates .ensures) (read w64 (w .tile-written .result) (w .tile-written .ok)) (w .tile-written .ensures)
+    let made = m .map-at .ensures ∙ read-map (a .radius) (s .fits .cx) (s .fits .cy) in
+    pair-call origin (λ (m : Map). FromHexmod m (index (a .at))) ofTile made (tileAnswer (f .from-hexmod-coordinates .result)) (f .from-hexmod-coordinates .ensures) (p .of-tile .ensures) (read w64 (w .written .result) (w .written .ok)) (w .written .ensures)
 
 pub kyrla-tile-spec : {M : Type 1} → statement M
 kyrla-tile-spec =
@@ -41,6 +44,6 @@ kyrla-tile-spec =
     (tie.spec
     map-at-requires
     from-hexmod-coordinates-requires
-    tile-written-requires
+    of-tile-requires written-requires
     same-length
     returns)

@@ -1,7 +1,6 @@
 -- `kyrla_tile_at` meets its contract: the tile of the row and column is asked for, and written.
 use mathlib.Core.Path.{_∙_}
 use mir.Syntax.{w64}
-use mir.Facts.{toZ-ofZ}
 use borrow.Author.Needs.{needs}
 use Rattle.whole.proofs.Machine.{read}
 use Rattle.hex.specs.Answers.{origin, tileAnswer}
@@ -19,8 +18,11 @@ map-at-requires c κs = search needs
 from-row-column-requires : tie.Need-from-row-column-requires
 from-row-column-requires c κs = search needs
 
-tile-written-requires : tie.Need-tile-written-requires
-tile-written-requires c κs = search needs
+of-tile-requires : tie.Need-of-tile-requires
+of-tile-requires c κs = search needs
+
+written-requires : tie.Need-written-requires
+written-requires c κs = search needs
 
 same-length : tie.Need-same-length
 same-length c = search needs
@@ -28,14 +30,15 @@ same-length c = search needs
 returns : tie.Need-returns
 returns c =
     let w = c .before in
-    let f = w .before in
-    let m = f .before .before in
+    let p = w .before .before in
+    let f = p .before in
+    let m = f .before in
     let s = m .before in
     let a = s .args in
-    let made = m .map-at .ensures ∙ read-map (a .radius) (toZ-ofZ (s .fits .cx)) (toZ-ofZ (s .fits .cy)) in
-    pair-call origin (λ (m : Map). FromRowColumn m (rowColumn (a .row) (a .column))) ofTile made (tileAnswer (f .from-row-column .result)) (f .from-row-column .ensures) (read w64 (w .tile-written .result) (w .tile-written .ok)) (w .tile-written .ensures)
+    let made = m .map-at .ensures ∙ read-map (a .radius) (s .fits .cx) (s .fits .cy) in
+    pair-call origin (λ (m : Map). FromRowColumn m (rowColumn (a .row) (a .column))) ofTile made (tileAnswer (f .from-row-column .result)) (f .from-row-column .ensures) (p .of-tile .ensures) (read w64 (w .written .result) (w .written .ok)) (w .written .ensures)
 
 pub kyrla-tile-at-spec : {M : Type 1} → statement M
 kyrla-tile-at-spec =
     tie.close
-    (tie.spec map-at-requires from-row-column-requires tile-written-requires same-length returns)
+    (tie.spec map-at-requires from-row-column-requires of-tile-requires written-requires same-length returns)
