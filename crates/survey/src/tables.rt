@@ -1,41 +1,46 @@
 // The tables of a valley: words in dense-index order, read into lent arrays.
 
-use crate::words::DASH;
 use hex::limits;
 use questions::arguments::UnsignedArgument;
 use questions::arguments::unsigned_at;
+use valley_words::DASH;
 ghost use Prim.Native.Nat.{_≤_, _<_};
 ghost use lib.ListN.{length};
+
+// How many words stand before the tables.
+pub(crate) const HEAD: usize = 8;
 
 // How many tiles the largest map has: 3r(r + 1) + 1 for the radius 60.
 pub(crate) const ROOM: usize = 10_981;
 
-// Reads an effort for each entry, beginning at a place of the words, and answers how many were read before a word that is missing or no effort.
-pub(crate) fn read_efforts(words: &[i64], from: usize, efforts: &mut [u16]) -> usize
-    requires { ⌜ from ≤ 65536 ⌝ }
+// Where the words of a valley end that has this many tiles: behind the efforts, and of a check behind the totals.
+pub(crate) fn end(checks: bool, area: usize) -> usize
+    requires { ⌜ area ≤ 10981 ⌝ }
 {
-    let mut i: usize = 0;
-    while i < efforts.len() {
-        if !effort_read(words, from + i, efforts, i) {
-            break;
-        }
-        i += 1;
-    }
-    i
+    if checks { HEAD + 2 * area } else { HEAD + area }
 }
 
-// Reads a total for each entry, as `read_efforts` does efforts.
-pub(crate) fn read_totals(words: &[i64], from: usize, totals: &mut [u32]) -> usize
-    requires { ⌜ from ≤ 65536 ⌝ }
-{
-    let mut i: usize = 0;
-    while i < totals.len() {
-        if !total_read(words, from + i, totals, i) {
-            break;
+// Reads the words before a place into the entries of both tables, the efforts first. It answers the number of the first word that is missing, no entry, or one too many; 0 where there is none.
+pub(crate) fn read(words: &[i64], end: usize, efforts: &mut [u16], totals: &mut [u32]) -> usize {
+    let mut at: usize = HEAD;
+    while at < end {
+        if !entry_read(words, at, efforts, totals) {
+            return at + 1;
         }
-        i += 1;
+        at += 1;
     }
-    i
+    if end < words.len() { end + 1 } else { 0 }
+}
+
+// Reads one word into its entry, and says whether there is one.
+fn entry_read(words: &[i64], at: usize, efforts: &mut [u16], totals: &mut [u32]) -> bool
+    requires { ⌜ 8 ≤ at ⌝ }
+{
+    let entry = at - HEAD;
+    if entry < efforts.len() {
+        return effort_read(words, at, efforts, entry);
+    }
+    total_read(words, at, totals, entry - efforts.len())
 }
 
 // Reads one effort into an entry, and says whether there is one. 65535 bars the tile as `-` does.
@@ -53,9 +58,10 @@ fn effort_read(words: &[i64], at: usize, efforts: &mut [u16], entry: usize) -> b
 }
 
 // Reads one total into an entry, and says whether there is one. 4294967295 says that there is no way, as `-` does.
-fn total_read(words: &[i64], at: usize, totals: &mut [u32], entry: usize) -> bool
-    requires { ⌜ entry < length (now totals) ⌝ }
-{
+fn total_read(words: &[i64], at: usize, totals: &mut [u32], entry: usize) -> bool {
+    if entry >= totals.len() {
+        return false;
+    }
     let UnsignedArgument::Is(total) = marked_at(words, at, limits::NO_WAY) else {
         return false;
     };
@@ -65,16 +71,10 @@ fn total_read(words: &[i64], at: usize, totals: &mut [u32], entry: usize) -> boo
 
 // The word at a place as an unsigned number, `-` as the mark of its table.
 fn marked_at(words: &[i64], at: usize, mark: u32) -> UnsignedArgument {
-    if is_dash(words, at) {
-        return UnsignedArgument::Is(mark);
+    if at < words.len() {
+        if words[at] == DASH {
+            return UnsignedArgument::Is(mark);
+        }
     }
     unsigned_at(words, at)
-}
-
-// Is there a word at this place, and is it `-`?
-fn is_dash(words: &[i64], at: usize) -> bool {
-    if at >= words.len() {
-        return false;
-    }
-    words[at] == DASH
 }

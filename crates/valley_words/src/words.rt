@@ -1,9 +1,7 @@
 // From bytes to words. Each word between white space becomes one number in a lent array, one byte at a time, so that a word may lie across two blocks of input.
 
+use crate::DASH;
 ghost use Prim.Native.Nat.{_<_};
-
-// What stands in the array for a word that is `-` alone. Like the next it is beyond every field, so that no field takes it for a number.
-pub(crate) const DASH: i64 = 1_000_000_000_000;
 
 // What stands in the array for a word that is no number, or is a number beyond every field.
 const NO_NUMBER: i64 = 2_000_000_000_000;
@@ -17,10 +15,8 @@ enum Stage {
     Between,
     // A minus was read, and nothing else.
     Minus,
-    // At least one digit was read, after a minus or not.
-    Digits,
-    // Something was read that makes the word no number.
-    Odd,
+    // More was read: a number, or what is none, which has a magnitude beyond every field.
+    More,
 }
 
 // What is kept from byte to byte: the word in progress, and how many words are done.
@@ -31,40 +27,8 @@ pub(crate) struct Reading {
     count: usize,
 }
 
-// An input of which nothing was read.
-pub(crate) fn nothing_read() -> Reading {
-    between(0)
-}
-
-// How many words are done.
-pub(crate) fn count_of(reading: Reading) -> usize {
-    reading.count
-}
-
-// Takes in one more byte.
-pub(crate) fn taken(reading: Reading, byte: u8, words: &mut [i64]) -> Reading {
-    if is_space(byte) {
-        return ended(reading, words);
-    }
-    let stage = reading.stage;
-    match stage {
-        Stage::Between => begun(reading, byte),
-        Stage::Minus => continued(reading, byte),
-        Stage::Digits => continued(reading, byte),
-        Stage::Odd => reading,
-    }
-}
-
-// Is the byte white space? Both kinds of line end are.
-fn is_space(byte: u8) -> bool {
-    match byte {
-        b' ' | b'\t' | b'\r' | b'\n' => true,
-        _ => false,
-    }
-}
-
 // No word in progress, after this many.
-fn between(count: usize) -> Reading {
+pub(crate) fn between(count: usize) -> Reading {
     Reading {
         stage: Stage::Between,
         negative: false,
@@ -73,30 +37,44 @@ fn between(count: usize) -> Reading {
     }
 }
 
-// The first byte of a word.
-fn begun(reading: Reading, byte: u8) -> Reading {
-    let count = reading.count;
+// Takes in one more byte. Both kinds of line end are white space.
+pub(crate) fn taken(reading: Reading, byte: u8, words: &mut [i64]) -> Reading {
     match byte {
-        b'-' => Reading {
+        b' ' | b'\t' | b'\r' | b'\n' => ended(reading, words),
+        b'0'..=b'9' => with_digit(reading, byte - b'0'),
+        b'-' => with_minus(reading),
+        _ => odd(reading.count),
+    }
+}
+
+// The end of the input ends the word in progress too: how many words there are.
+pub(crate) fn count_at_end(reading: Reading, words: &mut [i64]) -> usize {
+    let all = ended(reading, words);
+    all.count
+}
+
+// A minus opens a word. Inside one it makes the word no number.
+fn with_minus(reading: Reading) -> Reading {
+    let count = reading.count;
+    let stage = reading.stage;
+    match stage {
+        Stage::Between => Reading {
             stage: Stage::Minus,
             negative: true,
             magnitude: 0,
             count,
         },
-        _ => continued(reading, byte),
+        _ => odd(count),
     }
 }
 
-// A byte where only a digit goes on with a number.
-fn continued(reading: Reading, byte: u8) -> Reading {
-    match byte {
-        b'0'..=b'9' => with_digit(reading, byte - b'0'),
-        _ => Reading {
-            stage: Stage::Odd,
-            negative: false,
-            magnitude: 0,
-            count: reading.count,
-        },
+// A word in progress that is no number, whatever follows, after this many words.
+fn odd(count: usize) -> Reading {
+    Reading {
+        stage: Stage::More,
+        negative: false,
+        magnitude: LARGEST + 1,
+        count,
     }
 }
 
@@ -106,7 +84,7 @@ fn with_digit(reading: Reading, digit: u8) -> Reading
 {
     let magnitude = reading.magnitude;
     Reading {
-        stage: Stage::Digits,
+        stage: Stage::More,
         negative: reading.negative,
         magnitude: if magnitude > LARGEST {
             magnitude
@@ -124,8 +102,7 @@ fn ended(reading: Reading, words: &mut [i64]) -> Reading {
     match stage {
         Stage::Between => reading,
         Stage::Minus => stored(DASH, count, words),
-        Stage::Digits => stored(valued(reading.negative, reading.magnitude), count, words),
-        Stage::Odd => stored(NO_NUMBER, count, words),
+        Stage::More => stored(valued(reading.negative, reading.magnitude), count, words),
     }
 }
 

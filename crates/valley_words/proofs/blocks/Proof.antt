@@ -2,8 +2,8 @@
 use mathlib.Core.Path.{_≡_}
 use lib.ListN.{length}
 use borrow.Author.Needs.{needs}
-use Rattle.survey.proofs.input.blocks.Statement.{statement}
-use Rattle.survey.proofs.input.blocks.Tie as tie
+use Rattle.valley_words.proofs.blocks.Statement.{statement}
+use Rattle.valley_words.proofs.blocks.Tie as tie
 
 abbrev Inv-loop : tie.InvT-loop
 Inv-loop words₀ buffer₀ reading₀ left₀ words buffer reading left = (length words ≡ length words₀) × (65536 ≡ length buffer)
@@ -14,8 +14,8 @@ abbrev μ-loop : tie.MeasureT-loop
 large-buffer-requires : tie.Need-large-buffer-requires Inv-loop μ-loop
 large-buffer-requires c κs = search needs
 
-nothing-read-requires : tie.Need-nothing-read-requires Inv-loop μ-loop
-nothing-read-requires c κs = search needs
+between-requires : tie.Need-between-requires Inv-loop μ-loop
+between-requires c κs = search needs
 
 loop-holds : tie.Need-loop-holds Inv-loop μ-loop
 loop-holds c = search needs
@@ -63,7 +63,7 @@ blocks-spec =
     Inv-loop
     μ-loop
     large-buffer-requires
-    nothing-read-requires
+    between-requires
     loop-holds
     slice-aggregate-read-full
     read-full-requires

@@ -1,22 +1,26 @@
-// Standard input, taken in block by block.
+// The words of a valley: standard input, taken in block by block, becomes one number for each word between white space.
 
-use crate::words;
-use crate::words::Reading;
+mod words;
+
 use libc::STDIN_FILENO;
+use words::Reading;
+
+// What stands in the array for a word that is `-` alone. Like what stands for a word that is no number it is beyond every field, so that no field takes it for a number.
+pub const DASH: i64 = 1_000_000_000_000;
 
 // How many blocks of input are read at most, since every loop must end: 64 TiB in all.
 const BLOCKS: u32 = 1073741824;
 
-// Reads standard input to its end, stores its words, and answers how many there are. A line feed is added, so that a last word without one counts too.
-pub(crate) fn read_words(words: &mut [i64]) -> usize {
+// Reads standard input to its end, stores its words, and answers how many there are.
+pub fn read_words(words: &mut [i64]) -> usize {
     let reading = blocks(words);
-    words::count_of(words::taken(reading, b'\n', words))
+    words::count_at_end(reading, words)
 }
 
 // Takes in the whole input.
 fn blocks(words: &mut [i64]) -> Reading {
     let mut buffer = io::large_buffer();
-    let mut reading = words::nothing_read();
+    let mut reading = words::between(0);
     let mut left = BLOCKS;
     while left > 0 {
         let n = io::read_full(STDIN_FILENO, &mut buffer);
