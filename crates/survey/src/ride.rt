@@ -39,12 +39,15 @@ pub(crate) fn tell(checks: bool, words: &[i64]) {
 }
 
 // Tells which of two words that are no tile is the first to be no number. Words are numbered from 1, and places from 0.
-fn tile_unreadable(words: &[i64], at: u8) {
-    let SignedArgument::Is(_) = signed_at(words, at as usize) else {
-        report::unreadable(at as usize + 1);
-        return;
-    };
-    report::unreadable(at as usize + 2);
+fn tile_unreadable(words: &[i64], at: usize)
+    requires { ⌜ at ≤ 8 ⌝ }
+{
+    report::unreadable(
+        match signed_at(words, at) {
+            SignedArgument::Not => at + 1,
+            SignedArgument::Is(_) => at + 2,
+        },
+    );
 }
 
 // Judges the map, and reads x and y of the start.
@@ -95,7 +98,7 @@ fn with_tables(words: &[i64], ride: Ride) {
     read(words, ride, &mut efforts[..area], &mut totals[..area]);
 }
 
-// Reads the efforts, and of a check the totals too, and tells the verdict or the plan.
+// Reads the efforts, and of a check the totals too, and tells what is asked.
 fn read(words: &[i64], ride: Ride, efforts: &mut [u16], totals: &mut [u32])
     requires { ⌜ length (now efforts) ≤ 10981 ⌝ }
 {
@@ -109,6 +112,13 @@ fn read(words: &[i64], ride: Ride, efforts: &mut [u16], totals: &mut [u32])
         report::unreadable(word);
         return;
     }
+    asked(ride, efforts, totals);
+}
+
+// Tells the verdict on the totals, or the plan, whose totals are written over them.
+fn asked(ride: Ride, efforts: &[u16], totals: &mut [u32])
+    requires { ⌜ length (now efforts) ≤ 10981 ⌝ }
+{
     if ride.checks {
         verdict_told(ride, efforts, totals);
     } else {
