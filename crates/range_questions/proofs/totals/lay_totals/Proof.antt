@@ -3,8 +3,8 @@ use Prim.Native.Nat.{_≤_, _-_}
 use mathlib.Core.Path.{_≡_}
 use lib.ListN.{length}
 use borrow.Author.Needs.{needs}
-use Rattle.range_questions.proofs.tables.lay_totals.Statement.{statement}
-use Rattle.range_questions.proofs.tables.lay_totals.Tie as tie
+use Rattle.range_questions.proofs.totals.lay_totals.Statement.{statement}
+use Rattle.range_questions.proofs.totals.lay_totals.Tie as tie
 
 abbrev Inv-loop : tie.InvT-loop
 Inv-loop totals numbers₀ i₀ numbers i = (i ≤ length totals) × (length numbers ≡ length numbers₀)

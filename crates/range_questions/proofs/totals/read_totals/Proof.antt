@@ -1,25 +1,25 @@
--- `read_efforts` is safe and ends: the index runs up to the length of the table, which stays the same.
+-- `read_totals` is safe and ends: the index runs up to the length of the table, which stays the same.
 use Prim.Native.Nat.{_≤_, _-_}
 use mathlib.Core.Path.{_≡_}
 use lib.ListN.{length}
 use borrow.Author.Needs.{needs}
-use Rattle.route_questions.proofs.reading.read_efforts.Statement.{statement}
-use Rattle.route_questions.proofs.reading.read_efforts.Tie as tie
+use Rattle.range_questions.proofs.totals.read_totals.Statement.{statement}
+use Rattle.range_questions.proofs.totals.read_totals.Tie as tie
 
 abbrev Inv-loop : tie.InvT-loop
-Inv-loop words from efforts₀ i₀ efforts i = (i ≤ length efforts) × (length efforts ≡ length efforts₀)
+Inv-loop words from totals₀ i₀ totals i = (i ≤ length totals) × (length totals ≡ length totals₀)
 
 abbrev μ-loop : tie.MeasureT-loop
-μ-loop words from efforts₀ i₀ efforts i = length efforts - i
+μ-loop words from totals₀ i₀ totals i = length totals - i
 
 loop-holds : tie.Need-loop-holds Inv-loop μ-loop
 loop-holds c = search needs
 
-add-effort-read : tie.Need-add-effort-read Inv-loop μ-loop
-add-effort-read c = search needs
+add-total-read : tie.Need-add-total-read Inv-loop μ-loop
+add-total-read c = search needs
 
-effort-read-requires : tie.Need-effort-read-requires Inv-loop μ-loop
-effort-read-requires c κs = search needs
+total-read-requires : tie.Need-total-read-requires Inv-loop μ-loop
+total-read-requires c κs = search needs
 
 same-length : tie.Need-same-length Inv-loop μ-loop
 same-length c = search needs
@@ -42,15 +42,15 @@ same-length-2 c = search needs
 returns-2 : tie.Need-returns-2 Inv-loop μ-loop
 returns-2 c = search needs
 
-pub read-efforts-spec : {M : Type 1} → statement M
-read-efforts-spec =
+pub read-totals-spec : {M : Type 1} → statement M
+read-totals-spec =
     tie.close
     (tie.spec
     Inv-loop
     μ-loop
     loop-holds
-    add-effort-read
-    effort-read-requires
+    add-total-read
+    total-read-requires
     same-length
     returns
     add-i

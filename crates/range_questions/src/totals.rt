@@ -1,27 +1,10 @@
-// The tables of a question: read from the words of its line into lent arrays, and laid out from them into the answer.
+// The totals of a question: read from the words of its line into a lent table, and laid out from it into the answer.
 
 use questions::answer::put;
 use questions::arguments::UnsignedArgument;
 use questions::arguments::unsigned_at;
 ghost use Prim.Native.Nat.{_≤_, _<_};
 ghost use lib.ListN.{length};
-
-// The largest effort that a table holds. It bars its tile.
-const LARGEST_EFFORT: u32 = 65535;
-
-// Reads an effort for each entry, beginning at a place of the line. It says whether every word is there and is an effort.
-pub(crate) fn read_efforts(words: &[i64], from: usize, efforts: &mut [u16]) -> bool
-    requires { ⌜ from ≤ 4096 ⌝ }
-{
-    let mut i: usize = 0;
-    while i < efforts.len() {
-        if !effort_read(words, from + i, efforts, i) {
-            return false;
-        }
-        i += 1;
-    }
-    true
-}
 
 // Reads a total for each entry, beginning at a place of the line. It says whether every word is there and is a total.
 pub(crate) fn read_totals(words: &[i64], from: usize, totals: &mut [u32]) -> bool
@@ -49,20 +32,6 @@ pub(crate) fn lay_totals(totals: &[u32], numbers: &mut [i64]) {
 // Lays out one total at a place of the answer.
 fn lay_total(total: u32, numbers: &mut [i64], at: usize) {
     put(numbers, at, total as i64);
-}
-
-// Reads one effort into an entry.
-fn effort_read(words: &[i64], at: usize, efforts: &mut [u16], entry: usize) -> bool
-    requires { ⌜ entry < length (now efforts) ⌝ }
-{
-    let UnsignedArgument::Is(effort) = unsigned_at(words, at) else {
-        return false;
-    };
-    if effort > LARGEST_EFFORT {
-        return false;
-    }
-    efforts[entry] = effort as u16;
-    true
 }
 
 // Reads one total into an entry.
