@@ -8,12 +8,12 @@
 
 mod report;
 mod ride;
-mod tables;
 
-use tables::ROOM;
+use ride::ROOM;
+use valley_words::tables::HEAD;
 
 // How many words the longest input has, and one more, so that a word too many is seen.
-const WORDS: usize = tables::HEAD + 2 * ROOM + 1;
+const WORDS: usize = HEAD + 2 * ROOM + 1;
 
 // Does what the arguments of the program ask for: without one the plan, and with `check` alone the check.
 pub fn run() {

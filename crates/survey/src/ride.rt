@@ -2,8 +2,6 @@
 // The map is judged as soon as its three words are read: a map that is refused has no number of tiles, so that nothing after it can be read. Everything else is judged once all words are read.
 
 use crate::report;
-use crate::tables;
-use crate::tables::ROOM;
 use hex::Tile;
 use questions::arguments::SignedArgument;
 use questions::arguments::TileArgument;
@@ -13,8 +11,13 @@ use questions::arguments::tile_at;
 use questions::arguments::unsigned_at;
 use runs::ListAnswer;
 use storage::Map;
+use valley_words::tables;
+use valley_words::tables::HEAD;
 ghost use Prim.Native.Nat.{_≤_};
 ghost use lib.ListN.{length};
+
+// How many tiles the largest map has: 3r(r + 1) + 1 for the radius 60.
+pub(crate) const ROOM: usize = 10_981;
 
 // What is asked: the verdict on totals or the plan, of a ride on a map that begins and ends somewhere and may take so much.
 struct Ride {
@@ -102,17 +105,19 @@ fn with_tables(words: &[i64], ride: Ride) {
 fn read(words: &[i64], ride: Ride, efforts: &mut [u16], totals: &mut [u32])
     requires { ⌜ length (now efforts) ≤ 10981 ⌝ }
 {
-    let word = tables::read(
-        words,
-        tables::end(ride.checks, efforts.len()),
-        efforts,
-        totals,
-    );
+    let word = tables::read(words, end(ride.checks, efforts.len()), efforts, totals);
     if word != 0 {
         report::unreadable(word);
         return;
     }
     asked(ride, efforts, totals);
+}
+
+// Where the words of a valley end that has this many tiles: behind the efforts, and of a check behind the totals.
+fn end(checks: bool, area: usize) -> usize
+    requires { ⌜ area ≤ 10981 ⌝ }
+{
+    if checks { HEAD + 2 * area } else { HEAD + area }
 }
 
 // Tells the verdict on the totals, or the plan, whose totals are written over them.

@@ -1,12 +1,13 @@
-// The words of a valley: standard input, taken in block by block, becomes one number for each word between white space.
+// The words of a valley: standard input, taken in block by block, becomes one number for each word between white space; and the tables that most of the words are.
 
+pub mod tables;
 mod words;
 
 use libc::STDIN_FILENO;
 use words::Reading;
 
 // What stands in the array for a word that is `-` alone. Like what stands for a word that is no number it is beyond every field, so that no field takes it for a number.
-pub const DASH: i64 = 1_000_000_000_000;
+const DASH: i64 = 1_000_000_000_000;
 
 // How many blocks of input are read at most, since every loop must end: 64 TiB in all.
 const BLOCKS: u32 = 1073741824;

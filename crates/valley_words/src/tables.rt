@@ -1,27 +1,17 @@
 // The tables of a valley: words in dense-index order, read into lent arrays.
 
+use crate::DASH;
 use hex::limits;
 use questions::arguments::UnsignedArgument;
 use questions::arguments::unsigned_at;
-use valley_words::DASH;
 ghost use Prim.Native.Nat.{_≤_, _<_};
 ghost use lib.ListN.{length};
 
 // How many words stand before the tables.
-pub(crate) const HEAD: usize = 8;
-
-// How many tiles the largest map has: 3r(r + 1) + 1 for the radius 60.
-pub(crate) const ROOM: usize = 10_981;
-
-// Where the words of a valley end that has this many tiles: behind the efforts, and of a check behind the totals.
-pub(crate) fn end(checks: bool, area: usize) -> usize
-    requires { ⌜ area ≤ 10981 ⌝ }
-{
-    if checks { HEAD + 2 * area } else { HEAD + area }
-}
+pub const HEAD: usize = 8;
 
 // Reads the words before a place into the entries of both tables, the efforts first. It answers the number of the first word that is missing, no entry, or one too many; 0 where there is none.
-pub(crate) fn read(words: &[i64], end: usize, efforts: &mut [u16], totals: &mut [u32]) -> usize {
+pub fn read(words: &[i64], end: usize, efforts: &mut [u16], totals: &mut [u32]) -> usize {
     let mut at: usize = HEAD;
     while at < end {
         if !entry_read(words, at, efforts, totals) {
