@@ -2,4 +2,5 @@
 pub mod Ranges
 pub mod Words
 pub mod Numbers
+pub mod Reading
 pub mod Unique

@@ -1,11 +1,13 @@
 -- Every promise of this crate is an equation, or two, of the answer with what the arguments make: so two answers that meet it are equal, and so are two contents of a lent array at exit.
 use mathlib.Core.Path.{_≡_, sym, _∙_}
+use mathlib.Core.Bool.{Bool}
 use mathlib.Core.List.{List}
 use Prim.Native.Nat.{ℕ}
 use lib.IntN.{ℤ}
-use lib.ListN.{set}
+use lib.ListN.{length, set}
 use Rattle.hex.specs.declared.TileAnswer.{TileAnswer}
 use Rattle.questions.specs.Arguments.{signedAt, unsignedAt, tileOf}
+use Rattle.questions.specs.Efforts.{allEfforts, withEfforts}
 use Rattle.questions.specs.Answers.{answered, ofTile, wordOf, laidOf, laidOut}
 use Rattle.questions.specs.declared.answer.Asked.{Asked}
 use Rattle.questions.specs.declared.answer.Laid.{Laid}
@@ -25,6 +27,15 @@ unsigned-at-unique words at = unique (unsignedAt words at)
 
 pub tile-at-unique : (words : List ℤ) (i j : ℕ) {r s : TileArgument} → r ≡ tileOf (signedAt words i) (signedAt words j) → s ≡ tileOf (signedAt words i) (signedAt words j) → r ≡ s
 tile-at-unique words i j = unique (tileOf (signedAt words i) (signedAt words j))
+
+pub read-efforts-unique :
+    (words : List ℤ) (at : ℕ) (entry : List ℕ) {r s : Bool} {x y : List ℕ} →
+    r ≡ allEfforts words at (length entry) →
+    x ≡ withEfforts words at 0 (length entry) entry →
+    s ≡ allEfforts words at (length entry) →
+    y ≡ withEfforts words at 0 (length entry) entry →
+    (r ≡ s) × (x ≡ y)
+read-efforts-unique words at entry p i q j = (unique (allEfforts words at (length entry)) p q, unique (withEfforts words at 0 (length entry) entry) i j)
 
 -- Of `one`, `two` and `three`, which differ in how many numbers they have.
 pub numbers-unique : (words numbers : ℕ) (x y z : ℤ) {r s : Asked} → r ≡ answered words numbers x y z → s ≡ answered words numbers x y z → r ≡ s

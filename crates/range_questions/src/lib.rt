@@ -2,7 +2,7 @@
 // The words after the kind are the same in both: the map, which is x and y of its centre and its radius; x and y of the start; the budget; how many efforts and how many totals the
 // tables have; and the efforts. The totals check has the totals too. The lengths are words of their own, so that tables of a wrong length can be asked about.
 
-mod tables;
+mod totals;
 
 use hex::Tile;
 use questions::answer::Laid;
@@ -11,6 +11,7 @@ use questions::arguments::TileArgument;
 use questions::arguments::UnsignedArgument;
 use questions::arguments::tile_at;
 use questions::arguments::unsigned_at;
+use questions::efforts::read_efforts;
 use storage::Map;
 ghost use Prim.Native.Nat.{_+_, _≤_};
 ghost use lib.ListN.{length};
@@ -18,6 +19,9 @@ ghost use Rattle.range_questions.specs.Taking.{Says, TakesOf, TakesTable
 
 // How many words stand before the efforts, the kind included.
 const HEAD: usize = 9;
+
+// Where the first effort stands.
+const FIRST_EFFORT: u32 = HEAD as u32;
 
 // How many entries a table has at most.
 const ROOM: usize = 1024;
@@ -99,7 +103,7 @@ fn laid(
     let TableArguments::Is(question) = arguments(words) else {
         return Laid::Unreadable;
     };
-    if !tables::read_efforts(words, HEAD, efforts) {
+    if !read_efforts(words, FIRST_EFFORT, efforts) {
         return Laid::Unreadable;
     }
     match kind {
@@ -144,7 +148,7 @@ fn riding_range(
     let TableQuestion { map, start, budget } = question;
     let number = field_of_movement::riding_range(map, efforts, start, budget, totals);
     put(numbers, 0, number as i64);
-    tables::lay_totals(totals, numbers);
+    totals::lay_totals(totals, numbers);
     Laid::Numbers(HEAD + efforts.len(), totals.len() + 1)
 }
 
@@ -160,7 +164,7 @@ fn totals_check(
     requires { ⌜ length (now totals) ≤ 1024 ⌝ }
     ensures { λ r. ⌜ Says (9 + length (now (efforts .entry)) + length (now (totals .entry))) 2 r ⌝ }
 {
-    if !tables::read_totals(words, HEAD + efforts.len(), totals) {
+    if !totals::read_totals(words, HEAD + efforts.len(), totals) {
         return Laid::Unreadable;
     }
     let TableQuestion { map, start, budget } = question;

@@ -3,7 +3,6 @@
 // and how many entries the run; and the efforts. The lengths are words of their own, so that tables of a wrong length and runs that are too short can be asked about.
 
 mod laying;
-mod reading;
 
 use hex::Tile;
 use questions::answer::Laid;
@@ -11,6 +10,7 @@ use questions::arguments::TileArgument;
 use questions::arguments::UnsignedArgument;
 use questions::arguments::tile_at;
 use questions::arguments::unsigned_at;
+use questions::efforts::read_efforts;
 use storage::Map;
 ghost use Prim.Native.Nat.{_+_, _*_, _≤_};
 ghost use lib.ListN.{length};
@@ -21,6 +21,9 @@ const ROUTE: u32 = 40;
 
 // How many words stand before the efforts, the kind included.
 const HEAD: usize = 11;
+
+// Where the first effort stands.
+const FIRST_EFFORT: u32 = HEAD as u32;
 
 // How many entries a table, or the run, has at most.
 const ROOM: usize = 1024;
@@ -116,7 +119,7 @@ fn laid(
     let RouteArguments::Is(question) = arguments(words) else {
         return Laid::Unreadable;
     };
-    if !reading::read_efforts(words, HEAD, efforts) {
+    if !read_efforts(words, FIRST_EFFORT, efforts) {
         return Laid::Unreadable;
     }
     asked(question, efforts, ranks, run, numbers)

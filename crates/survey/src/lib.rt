@@ -6,70 +6,42 @@
 // What a call refuses is told in place of its answer, as `refused` and the number. What cannot be read is told as `unreadable` and the number of the word, from 1: a word that is no
 // number or too large for its field, the first word that is missing, or the first word too many.
 
-mod head;
-mod input;
 mod report;
 mod ride;
-mod tables;
-mod words;
 
-use libc::STDOUT_FILENO;
-use tables::ROOM;
+use ride::ROOM;
+use valley_words::tables::HEAD;
 
 // How many words the longest input has, and one more, so that a word too many is seen.
-const WORDS: usize = head::WORDS + 2 * ROOM + 1;
+const WORDS: usize = HEAD + 2 * ROOM + 1;
 
-// What the arguments may ask for.
-enum Job {
-    Plan,
-    Check,
-    Unknown,
-}
-
-// Does what the arguments of the program ask for.
+// Does what the arguments of the program ask for: without one the plan, and with `check` alone the check.
 pub fn run() {
-    match job_asked() {
-        Job::Plan => told(false),
-        Job::Check => told(true),
-        Job::Unknown => {
-            io::write_all(
-                STDOUT_FILENO,
-                b"usage: valley [check], with the valley on standard input\n",
-            );
-        }
-    }
-}
-
-// The job that the arguments ask for: without one the plan, and with `check` alone the check.
-fn job_asked() -> Job {
     let count = os::arg_count();
     if count < 2 {
-        return Job::Plan;
+        told(false);
+        return;
     }
-    if count > 2 {
-        return Job::Unknown;
+    if count == 2 {
+        if check_asked() {
+            told(true);
+            return;
+        }
     }
-    let mut word = [0u8; 8];
-    let length = os::arg(1, &mut word);
-    if says_check(&word[..length]) {
-        Job::Check
-    } else {
-        Job::Unknown
-    }
+    report::usage();
 }
 
-// Is the argument `check`?
-fn says_check(word: &[u8]) -> bool {
-    if word.len() != 5 {
-        return false;
-    }
-    word[0] == b'c' && word[1] == b'h' && word[2] == b'e' && word[3] == b'c' && word[4] == b'k'
+// Is the first argument `check`?
+fn check_asked() -> bool {
+    let mut word = [0u8; 8];
+    let length = os::arg(1, &mut word);
+    check::same(&word[..length], b"check")
 }
 
 // Reads the input, and tells what it asks for.
 fn told(checks: bool) {
     let mut words = [0i64; WORDS];
-    let count = input::read_words(&mut words);
+    let count = valley_words::read_words(&mut words);
     // No more words are counted than were stored, but the count alone does not say so.
     if count <= WORDS {
         ride::tell(checks, &words[..count]);

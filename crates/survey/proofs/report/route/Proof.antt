@@ -10,26 +10,17 @@ Inv-loop tiles run i₀ i = i ≤ tiles
 abbrev μ-loop : tie.MeasureT-loop
 μ-loop tiles run i₀ i = tiles - i
 
-slice-aggregate-labelled : tie.Need-slice-aggregate-labelled Inv-loop μ-loop
-slice-aggregate-labelled c = search needs
+slice-aggregate-line : tie.Need-slice-aggregate-line Inv-loop μ-loop
+slice-aggregate-line c = search needs
 
-labelled-requires : tie.Need-labelled-requires Inv-loop μ-loop
-labelled-requires c κs = search needs
-
-end-line-requires : tie.Need-end-line-requires Inv-loop μ-loop
-end-line-requires c κs = search needs
+line-requires : tie.Need-line-requires Inv-loop μ-loop
+line-requires c κs = search needs
 
 loop-holds : tie.Need-loop-holds Inv-loop μ-loop
 loop-holds c = search needs
 
-cast-pair : tie.Need-cast-pair Inv-loop μ-loop
-cast-pair c = search needs
-
-mul-pair : tie.Need-mul-pair Inv-loop μ-loop
-mul-pair c = search needs
-
-pair-requires : tie.Need-pair-requires Inv-loop μ-loop
-pair-requires c κs = search needs
+tile-requires : tie.Need-tile-requires Inv-loop μ-loop
+tile-requires c κs = search needs
 
 add-i : tie.Need-add-i Inv-loop μ-loop
 add-i c = search needs
@@ -49,13 +40,10 @@ route-spec =
     (tie.spec
     Inv-loop
     μ-loop
-    slice-aggregate-labelled
-    labelled-requires
-    end-line-requires
+    slice-aggregate-line
+    line-requires
     loop-holds
-    cast-pair
-    mul-pair
-    pair-requires
+    tile-requires
     add-i
     loop-less
     loop-again

@@ -17,17 +17,17 @@ returns c = search needs
 array-borrow-prefix-efforts : tie.Need-array-borrow-prefix-efforts
 array-borrow-prefix-efforts c = search needs
 
-slice-aggregate-with-efforts : tie.Need-slice-aggregate-with-efforts
-slice-aggregate-with-efforts c = simp length-take (omega arith)
+slice-aggregate-read : tie.Need-slice-aggregate-read
+slice-aggregate-read c = simp length-take (omega arith)
 
 array-borrow-prefix-totals : tie.Need-array-borrow-prefix-totals
 array-borrow-prefix-totals c = search needs
 
-slice-aggregate-with-efforts-2 : tie.Need-slice-aggregate-with-efforts-2
-slice-aggregate-with-efforts-2 c = simp length-take (omega arith)
+slice-aggregate-read-2 : tie.Need-slice-aggregate-read-2
+slice-aggregate-read-2 c = simp length-take (omega arith)
 
-with-efforts-requires : tie.Need-with-efforts-requires
-with-efforts-requires c κs = simp length-take (omega arith)
+read-requires : tie.Need-read-requires
+read-requires c κs = simp length-take (omega arith)
 
 returns-2 : tie.Need-returns-2
 returns-2 c = search needs
@@ -40,8 +40,8 @@ with-tables-spec =
     cast-area
     returns
     array-borrow-prefix-efforts
-    slice-aggregate-with-efforts
+    slice-aggregate-read
     array-borrow-prefix-totals
-    slice-aggregate-with-efforts-2
-    with-efforts-requires
+    slice-aggregate-read-2
+    read-requires
     returns-2)
