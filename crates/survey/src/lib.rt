@@ -6,11 +6,14 @@
 // What a call refuses is told in place of its answer, as `refused` and the number. What cannot be read is told as `unreadable` and the number of the word, from 1: a word that is no
 // number or too large for its field, the first word that is missing, or the first word too many.
 
+mod input;
 mod report;
 mod ride;
+mod tables;
+mod words;
 
 use ride::ROOM;
-use valley_words::tables::HEAD;
+use tables::HEAD;
 
 // How many words the longest input has, and one more, so that a word too many is seen.
 const WORDS: usize = HEAD + 2 * ROOM + 1;
@@ -41,7 +44,7 @@ fn check_asked() -> bool {
 // Reads the input, and tells what it asks for.
 fn told(checks: bool) {
     let mut words = [0i64; WORDS];
-    let count = valley_words::read_words(&mut words);
+    let count = input::read_words(&mut words);
     // No more words are counted than were stored, but the count alone does not say so.
     if count <= WORDS {
         ride::tell(checks, &words[..count]);

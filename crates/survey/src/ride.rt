@@ -2,6 +2,8 @@
 // The map is judged as soon as its three words are read: a map that is refused has no number of tiles, so that nothing after it can be read. Everything else is judged once all words are read.
 
 use crate::report;
+use crate::tables;
+use crate::tables::HEAD;
 use hex::Tile;
 use questions::arguments::SignedArgument;
 use questions::arguments::TileArgument;
@@ -11,8 +13,6 @@ use questions::arguments::tile_at;
 use questions::arguments::unsigned_at;
 use runs::ListAnswer;
 use storage::Map;
-use valley_words::tables;
-use valley_words::tables::HEAD;
 ghost use Prim.Native.Nat.{_≤_};
 ghost use lib.ListN.{length};
 

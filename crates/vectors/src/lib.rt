@@ -2,15 +2,16 @@
 // A line holds a kind, the arguments and the answer as whole numbers; `#` opens a comment, and an empty line is skipped.
 // A line whose answer is another one is told with the answer that the crates give, so that a question can be asked by leaving the answer out.
 
+mod answer;
+mod report;
 mod verdict;
+mod words;
 
 use libc::STDIN_FILENO;
-use lines::report;
-use lines::report::COUNTS;
-use lines::words;
-use lines::words::Line;
-use lines::words::Reading;
+use report::COUNTS;
 use verdict::Verdict;
+use words::Line;
+use words::Reading;
 
 // How many numbers a line, or an answer, may have.
 const WORDS: usize = 2048;

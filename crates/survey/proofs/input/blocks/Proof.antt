@@ -2,8 +2,8 @@
 use mathlib.Core.Path.{_≡_}
 use lib.ListN.{length}
 use borrow.Author.Needs.{needs}
-use Rattle.valley_words.proofs.blocks.Statement.{statement}
-use Rattle.valley_words.proofs.blocks.Tie as tie
+use Rattle.survey.proofs.input.blocks.Statement.{statement}
+use Rattle.survey.proofs.input.blocks.Tie as tie
 
 abbrev Inv-loop : tie.InvT-loop
 Inv-loop words₀ buffer₀ reading₀ left₀ words buffer reading left = (length words ≡ length words₀) × (65536 ≡ length buffer)

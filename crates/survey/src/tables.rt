@@ -1,6 +1,6 @@
 // The tables of a valley: words in dense-index order, read into lent arrays.
 
-use crate::DASH;
+use crate::words::DASH;
 use hex::limits;
 use questions::arguments::UnsignedArgument;
 use questions::arguments::unsigned_at;
@@ -8,10 +8,10 @@ ghost use Prim.Native.Nat.{_≤_, _<_};
 ghost use lib.ListN.{length};
 
 // How many words stand before the tables.
-pub const HEAD: usize = 8;
+pub(crate) const HEAD: usize = 8;
 
 // Reads the words before a place into the entries of both tables, the efforts first. It answers the number of the first word that is missing, no entry, or one too many; 0 where there is none.
-pub fn read(words: &[i64], end: usize, efforts: &mut [u16], totals: &mut [u32]) -> usize {
+pub(crate) fn read(words: &[i64], end: usize, efforts: &mut [u16], totals: &mut [u32]) -> usize {
     let mut at: usize = HEAD;
     while at < end {
         if !entry_read(words, at, efforts, totals) {

@@ -9,8 +9,8 @@ use mir.Facts.{toZ-pos}
 use borrow.Author.Needs.{needs}
 use Rattle.whole.proofs.Differences.{by1}
 use Rattle.whole.proofs.Kit.{dif}
-use Rattle.valley_words.proofs.words.valued.Statement.{statement}
-use Rattle.valley_words.proofs.words.valued.Tie as tie
+use Rattle.survey.proofs.words.valued.Statement.{statement}
+use Rattle.survey.proofs.words.valued.Tie as tie
 
 minus-fits : (n : ℕ) (x : ℤ) → n < 2 ^ 32 → x ≡ pos n → SFits w64 (pos 0 -ℤ x)
 minus-fits n = by1 _ (simp dif (omega arith))

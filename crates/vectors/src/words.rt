@@ -19,7 +19,7 @@ enum Stage {
 }
 
 // What is kept from byte to byte: the stage, the word in progress, and how many words of the line are done.
-pub struct Reading {
+pub(crate) struct Reading {
     stage: Stage,
     negative: bool,
     magnitude: u64,
@@ -27,7 +27,7 @@ pub struct Reading {
 }
 
 // What a line turned out to be.
-pub enum Line {
+pub(crate) enum Line {
     Skipped,
     Spoilt,
     Words(usize),
@@ -40,12 +40,12 @@ enum Number {
 }
 
 // A line of which nothing was read.
-pub fn line_start() -> Reading {
+pub(crate) fn line_start() -> Reading {
     at_stage(Stage::LineStart, 0)
 }
 
 // Takes in one more byte. A line feed ends a word as any white space does: what becomes of the line is the caller's.
-pub fn taken(reading: Reading, byte: u8, words: &mut [i64]) -> Reading {
+pub(crate) fn taken(reading: Reading, byte: u8, words: &mut [i64]) -> Reading {
     let stage = reading.stage;
     match stage {
         Stage::Comment | Stage::Spoilt => reading,
@@ -54,7 +54,7 @@ pub fn taken(reading: Reading, byte: u8, words: &mut [i64]) -> Reading {
 }
 
 // What the line was, once its line feed was taken in. No word is in progress then.
-pub fn line_of(reading: Reading) -> Line {
+pub(crate) fn line_of(reading: Reading) -> Line {
     let stage = reading.stage;
     match stage {
         Stage::Spoilt => Line::Spoilt,

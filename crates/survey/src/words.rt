@@ -1,7 +1,9 @@
 // From bytes to words. Each word between white space becomes one number in a lent array, one byte at a time, so that a word may lie across two blocks of input.
 
-use crate::DASH;
 ghost use Prim.Native.Nat.{_<_};
+
+// What stands in the array for a word that is `-` alone. Like what stands for a word that is no number it is beyond every field, so that no field takes it for a number.
+pub(crate) const DASH: i64 = 1_000_000_000_000;
 
 // What stands in the array for a word that is no number, or is a number beyond every field.
 const NO_NUMBER: i64 = 2_000_000_000_000;

@@ -3,8 +3,8 @@ use Prim.Native.Nat.{_≤_, _-_}
 use mathlib.Core.Path.{_≡_}
 use lib.ListN.{length}
 use borrow.Author.Needs.{needs}
-use Rattle.valley_words.proofs.tables.read.Statement.{statement}
-use Rattle.valley_words.proofs.tables.read.Tie as tie
+use Rattle.survey.proofs.tables.read.Statement.{statement}
+use Rattle.survey.proofs.tables.read.Tie as tie
 
 abbrev Inv-loop : tie.InvT-loop
 Inv-loop words end efforts₀ totals₀ at₀ efforts totals at = (8 ≤ at) × (length efforts ≡ length efforts₀) × (length totals ≡ length totals₀)

@@ -1,19 +1,14 @@
-// The words of a valley: standard input, taken in block by block, becomes one number for each word between white space; and the tables that most of the words are.
+// Standard input, taken in block by block, as the words of a valley: one number for each word between white space.
 
-pub mod tables;
-mod words;
-
+use crate::words;
+use crate::words::Reading;
 use libc::STDIN_FILENO;
-use words::Reading;
-
-// What stands in the array for a word that is `-` alone. Like what stands for a word that is no number it is beyond every field, so that no field takes it for a number.
-const DASH: i64 = 1_000_000_000_000;
 
 // How many blocks of input are read at most, since every loop must end: 64 TiB in all.
 const BLOCKS: u32 = 1073741824;
 
 // Reads standard input to its end, stores its words, and answers how many there are.
-pub fn read_words(words: &mut [i64]) -> usize {
+pub(crate) fn read_words(words: &mut [i64]) -> usize {
     let reading = blocks(words);
     words::count_at_end(reading, words)
 }

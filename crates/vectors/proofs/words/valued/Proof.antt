@@ -1,8 +1,8 @@
 -- `valued` is safe: a magnitude below 2^63 has a negative.
 use borrow.Author.Needs.{needs}
-use Rattle.lines.proofs.Ranges.{negative-fits}
-use Rattle.lines.proofs.words.valued.Statement.{statement}
-use Rattle.lines.proofs.words.valued.Tie as tie
+use Rattle.vectors.proofs.Ranges.{negative-fits}
+use Rattle.vectors.proofs.words.valued.Statement.{statement}
+use Rattle.vectors.proofs.words.valued.Tie as tie
 
 cast-value : tie.Need-cast-value
 cast-value c = search needs

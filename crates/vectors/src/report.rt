@@ -19,23 +19,23 @@ const UNREADABLE: usize = 2;
 const KIND_ZERO: usize = 3;
 
 // How many counts there are.
-pub const COUNTS: usize = KIND_ZERO + 2 * KINDS as usize;
+pub(crate) const COUNTS: usize = KIND_ZERO + 2 * KINDS as usize;
 
 // How many lines are told one by one: a run that fails everywhere must not bury its totals.
 const TELLS: u64 = 10;
 
 // Counts a line, whatever it holds.
-pub fn next_line(counts: &mut [u64]) {
+pub(crate) fn next_line(counts: &mut [u64]) {
     raise(counts, LINES);
 }
 
 // Counts a vector whose answer is the one expected.
-pub fn agrees(counts: &mut [u64], kind: u32) {
+pub(crate) fn agrees(counts: &mut [u64], kind: u32) {
     raise(counts, ran(kind));
 }
 
 // Counts a vector whose answer is another one, and tells that answer, which is the first `length` of the numbers.
-pub fn differs(counts: &mut [u64], kind: u32, numbers: &[i64], length: usize) {
+pub(crate) fn differs(counts: &mut [u64], kind: u32, numbers: &[i64], length: usize) {
     raise(counts, ran(kind));
     raise(counts, differed(kind));
     if tells(counts, b" differs:") {
@@ -44,13 +44,13 @@ pub fn differs(counts: &mut [u64], kind: u32, numbers: &[i64], length: usize) {
 }
 
 // Counts a line that could not be read.
-pub fn unreadable(counts: &mut [u64]) {
+pub(crate) fn unreadable(counts: &mut [u64]) {
     raise(counts, UNREADABLE);
     tells(counts, b" unreadable\n");
 }
 
 // Prints a line for each kind that occurred, in rising order, and the count of what could not be read.
-pub fn print(counts: &[u64]) {
+pub(crate) fn print(counts: &[u64]) {
     let mut kind: u32 = 0;
     while kind < KINDS {
         print_kind(kind, counts);

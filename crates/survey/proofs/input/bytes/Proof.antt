@@ -3,8 +3,8 @@ use Prim.Native.Nat.{_≤_, _-_}
 use mathlib.Core.Path.{_≡_}
 use lib.ListN.{length}
 use borrow.Author.Needs.{needs}
-use Rattle.valley_words.proofs.bytes.Statement.{statement}
-use Rattle.valley_words.proofs.bytes.Tie as tie
+use Rattle.survey.proofs.input.bytes.Statement.{statement}
+use Rattle.survey.proofs.input.bytes.Tie as tie
 
 abbrev Inv-loop : tie.InvT-loop
 Inv-loop s words₀ reading₀ i₀ words reading i = (i ≤ length s) × (length words ≡ length words₀)
