@@ -19,13 +19,13 @@ use Rattle.storage.specs.Maps.{areaOf}
 use Rattle.storage.specs.declared.Map.{Map}
 use Rattle.storage.proofs.Maps.{fine, area-small}
 use Rattle.terrain.specs.GroundOfMap.{groundOf}
-use Rattle.engine.specs.Filling.{fits, TellsRanks, FillsRanks}
+use Rattle.engine.specs.Filling.{fits, FillsRanks}
 use Rattle.engine.specs.Leaves.{largestTotal, largestArea, totalOf}
 use Rattle.engine.specs.Trees.{blank}
 use Rattle.engine.specs.Settling.{totals}
 use Rattle.engine.specs.Steps.{toOf, costOf}
 use Rattle.engine.specs.Turns.{OfMap, Settles}
-use Rattle.engine.specs.Writing.{rankOf, Written}
+use Rattle.engine.specs.Writing.{rankOf, Written, TellsRanks}
 use Rattle.engine.specs.declared.steps.Table.{Table}
 use Rattle.engine.proofs.Budgets.{right-wider}
 use Rattle.engine.proofs.Closing.{at-first}

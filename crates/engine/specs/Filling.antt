@@ -13,16 +13,10 @@ use Rattle.storage.specs.declared.Map.{Map}
 use Rattle.terrain.specs.GroundOfMap.{groundOf}
 use Rattle.terrain.specs.Judging.{lengthsFit}
 use Rattle.terrain.specs.LandOfMap.{landOf}
-use Rattle.engine.specs.Settling.{totals}
-use Rattle.engine.specs.Writing.{rankOf, Written}
 
 -- Both tables have an entry for each tile of a map that is fine, and the tile that is asked about, a start or an end, is one of its indices. (A map that is not fine has no tiles.)
 unfoldable pub fits : Map → ℕ → ℕ → ℕ → Bool
 fits map i efforts table = ltb i (tilesOf map) && lengthsFit map efforts table
-
--- The leaves of H tell the ranks for an end: in a table to which all of them are written stands the rank of every tile.
-abbrev pub TellsRanks : Map → List ℕ → ℕ → List ℕ → Type 0
-TellsRanks map E end H = (table : List ℕ) → Written (length E) (λ t. rankOf (totals (length E) H t)) (length E) table → Ranks (groundOf map E) end (at table)
 
 -- The table of totals is right over the land of the map, or unchanged.
 pub record FillsTotals (map : Map) (efforts : List ℕ) (start budget : ℕ) (before after : List ℕ) : Type 0 where

@@ -20,7 +20,7 @@ ghost use Rattle.engine.specs.Leaves.{shut, largestTotal};
 ghost use Rattle.engine.specs.Trees.{Heap, blank};
 ghost use Rattle.engine.specs.Steps.{toOf, costOf};
 ghost use Rattle.engine.specs.Turns.{OfMap, Turned, Finished, Settles};
-ghost use Rattle.engine.specs.Filling.{TellsRanks};
+ghost use Rattle.engine.specs.Writing.{TellsRanks};
 
 // Settles the tile at the root, which is open: looks at the steps out of it, and closes it.
 fn turn(tree: &mut [u64], table: Table, map: Map, efforts: &[u16], budget: u64)
