@@ -53,7 +53,7 @@ pub tiles-fine : (map : Map) → mapRefusal map ≡ 0 → tilesOf map ≡ areaOf
 unfolding tilesOf
 tiles-fine map e = rw (eq-eqb (mapRefusal map) 0 e)
 
-pub area-small : (r : ℕ) → r ≤ radiusLimit → 3 * r * (r + 1) ≤ 10980
+pub area-small : (r : ℕ) → r ≤ radiusLimit → 3 * r * (r + 1) ≤ 3 * radiusLimit * (radiusLimit + 1)
 area-small r h = omega (arith, mul-le-mul-right r h)
 
 -- The tiles of a map are the disc round its centre.

@@ -5,6 +5,7 @@ use crate::report;
 use crate::tables;
 use crate::tables::HEAD;
 use hex::Tile;
+use hex::limits;
 use questions::arguments::SignedArgument;
 use questions::arguments::TileArgument;
 use questions::arguments::UnsignedArgument;
@@ -15,9 +16,14 @@ use runs::ListAnswer;
 use storage::Map;
 ghost use Prim.Native.Nat.{_≤_};
 ghost use lib.ListN.{length};
+ghost use Rattle.hex.specs.Limits.{radiusLimit};
+ghost use Rattle.storage.specs.Maps.{areaOf};
 
-// How many tiles the largest map has: 3r(r + 1) + 1 for the radius 60.
-pub(crate) const ROOM: usize = 10_981;
+// The largest radius of a map.
+const RADIUS: usize = limits::RADIUS as usize;
+
+// How many tiles the largest map has.
+pub(crate) const ROOM: usize = 3 * RADIUS * (RADIUS + 1) + 1;
 
 // What is asked: the verdict on totals or the plan, of a ride on a map that begins and ends somewhere and may take so much.
 struct Ride {
@@ -103,7 +109,7 @@ fn with_tables(words: &[i64], ride: Ride) {
 
 // Reads the efforts, and of a check the totals too, and tells what is asked.
 fn read(words: &[i64], ride: Ride, efforts: &mut [u16], totals: &mut [u32])
-    requires { ⌜ length (now efforts) ≤ 10981 ⌝ }
+    requires { ⌜ length (now efforts) ≤ areaOf radiusLimit ⌝ }
 {
     let word = tables::read(words, end(ride.checks, efforts.len()), efforts, totals);
     if word != 0 {
@@ -115,14 +121,14 @@ fn read(words: &[i64], ride: Ride, efforts: &mut [u16], totals: &mut [u32])
 
 // Where the words of a valley end that has this many tiles: behind the efforts, and of a check behind the totals.
 fn end(checks: bool, area: usize) -> usize
-    requires { ⌜ area ≤ 10981 ⌝ }
+    requires { ⌜ area ≤ areaOf radiusLimit ⌝ }
 {
     if checks { HEAD + 2 * area } else { HEAD + area }
 }
 
 // Tells the verdict on the totals, or the plan, whose totals are written over them.
 fn asked(ride: Ride, efforts: &[u16], totals: &mut [u32])
-    requires { ⌜ length (now efforts) ≤ 10981 ⌝ }
+    requires { ⌜ length (now efforts) ≤ areaOf radiusLimit ⌝ }
 {
     if ride.checks {
         verdict_told(ride, efforts, totals);
@@ -145,7 +151,7 @@ fn verdict_told(ride: Ride, efforts: &[u16], totals: &[u32]) {
 
 // Tells the plan: the riding range, the verdict on its totals, and the route.
 fn planned(ride: Ride, efforts: &[u16], totals: &mut [u32])
-    requires { ⌜ length (now efforts) ≤ 10981 ⌝ }
+    requires { ⌜ length (now efforts) ≤ areaOf radiusLimit ⌝ }
 {
     let number = field_of_movement::riding_range(
         ride.map,
@@ -165,7 +171,7 @@ fn planned(ride: Ride, efforts: &[u16], totals: &mut [u32])
 
 // Tells the route. The run that it is written to has room for every tile of the largest map.
 fn route_told(ride: Ride, efforts: &[u16])
-    requires { ⌜ length (now efforts) ≤ 10981 ⌝ }
+    requires { ⌜ length (now efforts) ≤ areaOf radiusLimit ⌝ }
 {
     let mut ranks = [0u64; ROOM];
     let mut run = [0i32; 2 * ROOM];

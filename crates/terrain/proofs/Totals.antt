@@ -3,7 +3,7 @@ use mathlib.Core.Path.{_≡_}
 use mathlib.Core.Bool.{true}
 use mathlib.Core.Logic.{_↔_}
 use mathlib.Core.List.{List}
-use Prim.Native.Nat.{ℕ, _*_, _-_, _≤_, _<_}
+use Prim.Native.Nat.{ℕ, _+_, _*_, _-_, _≤_, _<_}
 use native.Mathlib.Nat.{mul-le-mul-right}
 use native.Mathlib.Decide.{ℕ-discrete, decLt}
 use native.Mathlib.Omega.{arith}
@@ -36,8 +36,8 @@ module _ (map : Map) (small : map .radius ≤ radiusLimit) (efforts : List ℕ) 
       go t w p (yes e) = omega (arith, price-barred (getD efforts t 0) e)
       go t w p (no n) = omega (arith, price-open (getD efforts t 0) n, short t)
 
-  pub sums-below : (mark : ℕ) → 719574300 < mark → (areaOf (map .radius) - 1) * barred < mark
-  sums-below mark h = omega (arith, mul-le-mul-right {m = areaOf (map .radius) - 1} {n = 10980} barred (omega (arith, area-small (map .radius) small)))
+  pub sums-below : (mark : ℕ) → 3 * radiusLimit * (radiusLimit + 1) * barred < mark → (areaOf (map .radius) - 1) * barred < mark
+  sums-below mark h = omega (arith, mul-le-mul-right {m = areaOf (map .radius) - 1} {n = 3 * radiusLimit * (radiusLimit + 1)} barred (omega (arith, area-small (map .radius) small)))
 
   right-is-plain : (T : ℕ → ℕ) (i b : ℕ) → i < areaOf (map .radius) → Right (landOf map efforts noWay) T i b ↔ Plain (landOf map efforts noWay) T i b
   right-is-plain T i b h = right-iff-plain (landOf map efforts noWay) T i b barred h (capped noWay) (sums-below noWay (omega arith))

@@ -9,7 +9,8 @@ use borrow.Author.Count.{below-more, below-none}
 use Rattle.paths.specs.Lands.{Land}
 use Rattle.paths.specs.NeighborRule.{best, want}
 use Rattle.paths.specs.Tables.{at}
-use Rattle.hex.specs.Limits.{noWay}
+use Rattle.hex.specs.Limits.{radiusLimit, noWay}
+use Rattle.storage.specs.Maps.{areaOf}
 use Rattle.storage.proofs.Maps.{fine, area-small}
 use Rattle.storage.proofs.Near.{entries-near}
 use Rattle.terrain.specs.LandOfMap.{against, landOf}
@@ -43,7 +44,7 @@ T z = at (now (Given z .args .totals))
 abbrev Scan : tie.At-loop Inv-loop μ-loop Inv-scan μ-scan → tie.At-scan Inv-loop μ-loop Inv-scan μ-scan
 Scan l = l .before .before .before .before .before
 
-few : (z : tie.At-scan Inv-loop μ-loop Inv-scan μ-scan) → length (now (Given z .args .totals)) ≤ 10981
+few : (z : tie.At-scan Inv-loop μ-loop Inv-scan μ-scan) → length (now (Given z .args .totals)) ≤ areaOf radiusLimit
 few z = let k = Given z in omega (arith, k .pre .1 .1, area-small (k .args .map .radius) (fine (k .args .map) (k .pre .0) .small))
 
 scan-holds : tie.Need-scan-holds Inv-loop μ-loop Inv-scan μ-scan
