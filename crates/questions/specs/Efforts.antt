@@ -5,17 +5,18 @@ use Prim.Native.Nat.{ℕ, zero, suc}
 use lib.Dec.{leb}
 use lib.IntN.{ℤ}
 use lib.ListN.{set}
+use Rattle.hex.specs.Limits.{barred}
 use Rattle.questions.specs.Arguments.{unsignedAt}
 use Rattle.questions.specs.declared.arguments.UnsignedArgument.{UnsignedArgument}
 
--- A word is an effort from 0 to 65535.
+-- A word is an effort from 0 to the one that bars a tile.
 unfoldable pub isEffort : UnsignedArgument → Bool
-isEffort (UnsignedArgument.Is n) = leb n 65535
+isEffort (UnsignedArgument.Is n) = leb n barred
 isEffort UnsignedArgument.Not = false
 
 -- A table with an effort at entry i; what is no effort leaves the table as it is.
 unfoldable pub withEffort : UnsignedArgument → ℕ → List ℕ → List ℕ
-withEffort (UnsignedArgument.Is n) i efforts = cond (leb n 65535) (set efforts i n) efforts
+withEffort (UnsignedArgument.Is n) i efforts = cond (leb n barred) (set efforts i n) efforts
 withEffort UnsignedArgument.Not i efforts = efforts
 
 -- Are the n words from a place on efforts?
