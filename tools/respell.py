@@ -17,7 +17,7 @@ import sys
 NAME = r"[^\s(){}.;,@\"«»:\x60]+"
 TOKEN = re.compile(r"[^\s(){}.;,@\"«»\x60]+")
 DECLARED = re.compile(rf"^( *)(?:(?:unfoldable|abbrev|pattern|pub|axiom|field) +)*(?:(data|record|ruleset|mod|module) +)?({NAME})(?: \{{[^{{}}\n]*\}})*(?: \([^()\n]*\))* [:=](?= |$)", re.M)
-LOCAL = re.compile(rf"(?:\blet |λ \(?|[({{{{])({NAME}(?: {NAME})*?)(?= (?::|=)|\. |\) )")
+LOCAL = re.compile(rf"(?:\blet |λ |[({{])({NAME}(?: {NAME})*?)(?= (?::|=) |\. )")
 MADE = re.compile(r"(invariant|decreases)-(loop|scan).*|loop-.*|scan-.*|--.*|-.*")
 LEMMA = re.compile(r"_lem$")
 

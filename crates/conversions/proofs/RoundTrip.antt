@@ -6,7 +6,7 @@ use mathlib.Core.Bool.{Bool, true, false, cond}
 use Prim.Native.Nat.{ℕ, zero, suc, ◌≤◌}
 use native.Mathlib.Omega.{arith}
 use lib.IntN.{ℤ, ◌+ℤ◌, ◌-ℤ◌, +ℤ_comm}
-use borrow.Author.Tests.{leb_true}
+use borrow.Author.Tests.{leb-true}
 use Rattle.whole.specs.Euclid.{remainder}
 use Rattle.whole.proofs.Differences.{by2}
 use Rattle.whole.proofs.Kit.{dif}
@@ -79,7 +79,7 @@ odd_has_no_tile (suc zero) asked k =
       (λ h. there.0 ((odd_width (exchanged_pair asked)).0 (same ∙ h))),
       (λ none. sym same ∙ (odd_width (exchanged_pair asked)).1 (there.1 none)),
     )
-odd_has_no_tile (suc (suc mode)) asked k = let l = leb_true (suc (suc mode)) 1 k in absurd (omega arith)
+odd_has_no_tile (suc (suc mode)) asked k = let l = leb-true (suc (suc mode)) 1 k in absurd (omega arith)
 
 -- Every offset pair has a tile, so the way back from an offset grid is never refused by 4.
 some_tile : (mode orientation : ℕ) (asked : GridPair) → orientation ≤ 1 → ((t : Tile) → offset_of mode orientation t ≡ asked → ⊥) → ⊥
@@ -88,4 +88,4 @@ some_tile mode (suc zero) asked l none = (none_mirrored (offset_of mode 0) (offs
 some_tile mode (suc (suc orientation)) asked l none = absurd (omega arith)
 
 pub offset_never_odd : (mode orientation : ℕ) (asked : GridPair) (told : Told Tile) → known orientation ≡ true → TheTile (offset_of mode orientation) asked told → told.number ≡ odd_pair → ⊥
-offset_never_odd mode orientation asked told k h e = some_tile mode orientation asked (leb_true orientation 1 k) (told_none (offset_of mode orientation) asked told h e)
+offset_never_odd mode orientation asked told k h e = some_tile mode orientation asked (leb-true orientation 1 k) (told_none (offset_of mode orientation) asked told h e)

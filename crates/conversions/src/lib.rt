@@ -3,6 +3,8 @@
 // an odd doubled pair (4), then the limit of the tile (1).
 // A pointy grid is a flat one, and doubled height is doubled width, with the two coordinates exchanged on both sides.
 
+#![tactic(auto)]
+
 mod doubled;
 mod exchanged;
 mod offset;

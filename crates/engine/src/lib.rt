@@ -1,5 +1,7 @@
 // Tables of totals and of ranks over a map with efforts. Both hold least sums, and one engine finds them: it always settles the open tile with the smallest sum.
 
+#![tactic(auto)]
+
 ghost use Rattle.engine.specs.Filling.{FillsTotals, FillsRanks};
 
 mod costs;

@@ -1,5 +1,7 @@
 // The riding range and the totals check: what hexx has in src/algorithms/field_of_movement.rs, over lent tables by dense index, and a check for tables from anybody.
 
+#![tactic(auto)]
+
 ghost use Rattle.field_of_movement.specs.Calls.{Ranges, Checks};
 
 mod rule;

@@ -5,7 +5,7 @@ use Prim.Native.Nat.{ℕ}
 use lib.IntN.{ℤ}
 use mir.Syntax.{w32}
 use mir.Val.{SFits, to_z, of_z}
-use mir.Facts.{to_z_of_z}
+use mir.Facts.{to_z-of_z}
 use Rattle.hexes.specs.Tiles.{tile}
 use Rattle.hexes.specs.declared.Tile.{Tile}
 use Rattle.conversions.specs.Grid.{pair}
@@ -18,13 +18,13 @@ use Rattle.firmware.specs.Calls.{minus, map_at, noted, tiles_told, RangeCall, Ch
 
 -- A tile, a map and a pair of a grid whose coordinates are read back from 32 bits.
 pub read_tile : {x y : ℤ} → SFits w32 x → SFits w32 y → tile (to_z w32 (of_z w32 x)) (to_z w32 (of_z w32 y)) ≡ tile x y
-read_tile p q = ap₂ tile (to_z_of_z p) (to_z_of_z q)
+read_tile p q = ap₂ tile (to_z-of_z p) (to_z-of_z q)
 
 pub read_map : {x y : ℤ} (radius : ℕ) → SFits w32 x → SFits w32 y → map_at (to_z w32 (of_z w32 x)) (to_z w32 (of_z w32 y)) radius ≡ map_at x y radius
-read_map radius p q = ap₂ (λ (x y : ℤ). map_at x y radius) (to_z_of_z p) (to_z_of_z q)
+read_map radius p q = ap₂ (λ (x y : ℤ). map_at x y radius) (to_z-of_z p) (to_z-of_z q)
 
 pub read_grid : {x y : ℤ} → SFits w32 x → SFits w32 y → pair (to_z w32 (of_z w32 x)) (to_z w32 (of_z w32 y)) ≡ pair x y
-read_grid p q = ap₂ pair (to_z_of_z p) (to_z_of_z q)
+read_grid p q = ap₂ pair (to_z-of_z p) (to_z-of_z q)
 
 module _ {map made : Map} (is : made ≡ map) (efforts : List ℕ) {start asked : Tile} (from : asked ≡ start) (budget : ℕ) where
   pub range_call : (before after : List ℕ) (number : ℕ) (answer : ℤ) → answer ≡ minus number → Ranges made efforts asked budget before after number → RangeCall map efforts start budget before after answer

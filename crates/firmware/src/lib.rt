@@ -1,6 +1,8 @@
 // The calls for a program in C, such as the firmware of a handheld: each takes plain numbers and lent runs, and answers its result, or minus the number of a refusal. C passes a
 // run as two arguments, a pointer and a count of entries. The calls over tables stand here.
 
+#![tactic(auto)]
+
 mod lists;
 mod numbers;
 mod pairs;

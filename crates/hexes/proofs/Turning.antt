@@ -5,7 +5,7 @@ use mathlib.Core.List.{List, [], ◌∷◌, ◌++◌, map}
 use Prim.Native.Nat.{ℕ, suc, ◌+◌, ◌%◌, ◌<◌}
 use native.Mathlib.Nat.{mod_self, mod-eq_of_lt}
 use native.Mathlib.Decide.{dec_lt}
-use native.Mathlib.Numerals.{add_one}
+use native.Mathlib.Numerals.{add-one}
 use native.Mathlib.Omega.{arith}
 use lib.IntN.{ℤ, pos, neg_ℤ, ◌+ℤ◌}
 use lib.ListN.{get_or, length, get_or-append, get_or-map}
@@ -27,10 +27,10 @@ unfolding moved_on
 moved_on_at {A} x xs k z h = go (dec_lt k (length xs))
   where
     go : Dec (k < length xs) → get_or (xs ++ x ∷ []) k z ≡ get_or (x ∷ xs) ((k + 1) % suc (length xs)) z
-    go (yes l) = get_or-append xs (x ∷ []) z k l ∙ ap (λ (n : ℕ). get_or (x ∷ xs) n z) (sym (mod-eq_of_lt {n = k + 1} {m = suc (length xs)} (omega arith) ∙ add_one k))
+    go (yes l) = get_or-append xs (x ∷ []) z k l ∙ ap (λ (n : ℕ). get_or (x ∷ xs) n z) (sym (mod-eq_of_lt {n = k + 1} {m = suc (length xs)} (omega arith) ∙ add-one k))
     go (no l) =
         let e : k ≡ length xs = omega arith in
-        ap (λ (n : ℕ). get_or (xs ++ x ∷ []) n z) e ∙ get_or-append_seam xs x [] z ∙ ap (λ (n : ℕ). get_or (x ∷ xs) n z) (sym (ap (λ (n : ℕ). n % suc (length xs)) (add_one k ∙ ap suc e) ∙ mod_self (suc (length xs))))
+        ap (λ (n : ℕ). get_or (xs ++ x ∷ []) n z) e ∙ get_or-append_seam xs x [] z ∙ ap (λ (n : ℕ). get_or (x ∷ xs) n z) (sym (ap (λ (n : ℕ). n % suc (length xs)) (add-one k ∙ ap suc e) ∙ mod_self (suc (length xs))))
 
 -- The test over the table.
 tested : map sixth_turn steps ≡ moved_on steps

@@ -1,5 +1,7 @@
 // Tiles, directions and distance: what hexx has in src/hex/mod.rs and src/direction/, in numbers that never wrap.
 
+#![tactic(auto)]
+
 pub mod limits;
 pub mod refusals;
 

@@ -1,5 +1,7 @@
 // The questions about lists, which are answered by a list of tiles: one set of arguments for all of their kinds, a run that is lent to the call, and the answer laid out from the run.
 
+#![tactic(auto)]
+
 mod digest;
 
 ghost use Rattle.questions.specs.Answers.{Takes};

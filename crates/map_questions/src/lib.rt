@@ -1,6 +1,8 @@
 // The questions about maps: for each kind, which arguments its words are, which call of `storage` it makes, and which numbers its answer is.
 // The three words after the kind are the map in every question: the x and y of its centre, and its radius.
 
+#![tactic(auto)]
+
 ghost use Rattle.questions.specs.Answers.{Lays};
 
 use hexes::Direction;

@@ -1,5 +1,7 @@
 // What the questions of every subject share: how the words of a line become arguments and efforts, and how an answer becomes numbers.
 
+#![tactic(auto)]
+
 pub mod answer;
 pub mod arguments;
 pub mod efforts;

@@ -2,6 +2,8 @@
 // The words after the kind are the same in both: the map, which is x and y of its centre and its radius; x and y of the start; the budget; how many efforts and how many totals the
 // tables have; and the efforts. The totals check has the totals too. The lengths are words of their own, so that tables of a wrong length can be asked about.
 
+#![tactic(auto)]
+
 mod totals;
 
 ghost use Rattle.std.specs.Prelude.{◌+◌, ◌≤◌, length};

@@ -2,7 +2,7 @@
 use mathlib.Core.Path.{◌≡◌, refl, sym, ap, ap₂, ◌∙◌}
 use mathlib.Core.List.{List, [], ◌∷◌, ◌++◌}
 use Prim.Native.Nat.{ℕ, zero, suc, ◌+◌, ◌-◌, ◌*◌, ◌/◌, ◌%◌, ◌≤◌}
-use native.Mathlib.Nat.{zero_add}
+use native.Mathlib.Nat.{zero-add}
 use native.Mathlib.Omega.{arith}
 use lib.ListN.{length}
 use Rattle.hexes.specs.declared.Tile.{Tile}
@@ -21,7 +21,7 @@ shaped shape direction sense = record { shape = shape; direction = direction; se
 
 -- Tiles from the same place in the same direction, after none are left out.
 same_tiles : (p q : Tile) (d e n : ℕ) → p ≡ q → d % 6 ≡ e % 6 → tiles_from p d 0 n ≡ leg q e n
-same_tiles p q d e n h k = gather_ext _ _ n (λ i l. ap (λ (t : Tile). t ∷ []) (ap (λ (t : Tile). along t d (0 + i)) h ∙ ap (along q d) (zero_add i) ∙ along_same q d e i k))
+same_tiles p q d e n h k = gather_ext _ _ n (λ i l. ap (λ (t : Tile). t ∷ []) (ap (λ (t : Tile). along t d (0 + i)) h ∙ ap (along q d) (zero-add i) ∙ along_same q d e i k))
 
 -- A ring: the centre alone, or six legs from its corners.
 ring_none : (c : Tile) (d s : ℕ) → figure_at (shaped Shape.Ring d s) c 0 ≡ ring c d s 0

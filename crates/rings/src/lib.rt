@@ -1,6 +1,8 @@
 // Rings, ring edges, wedges, corner wedges and spirals, written to a lent run, and the counts: what hexx has in src/hex/rings.rs, without its cached arrays and `_to` forms.
 // A call judges its centre first (1), then its ranges (2), then its direction or vertex and its sense (3), then the room in the run (7). Refused, it leaves the run as it is.
 
+#![tactic(auto)]
+
 mod count;
 mod figure;
 mod judge;

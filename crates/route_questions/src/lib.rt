@@ -2,6 +2,8 @@
 // The words after the kind are the map, which is x and y of its centre and its radius; x and y of the start, and of the end; how many efforts and how many ranks the tables have,
 // and how many entries the run; and the efforts. The lengths are words of their own, so that tables of a wrong length and runs that are too short can be asked about.
 
+#![tactic(auto)]
+
 mod laying;
 
 ghost use Rattle.std.specs.Prelude.{◌+◌, ◌*◌, ◌≤◌, length};

@@ -5,7 +5,7 @@ use mathlib.Core.List.{List, [], ◌∷◌, ◌++◌}
 use Prim.Native.Nat.{ℕ, zero, suc, ◌+◌, ◌-◌, ◌≤◌, ◌<◌}
 use native.Mathlib.Decide.{dec_lt}
 use native.Mathlib.Omega.{arith}
-use lib.ListN.{length, get_or, length-append, get_or_append}
+use lib.ListN.{length, get_or, length-append, get_or-append}
 use lib.Seq.{get_or-append-add}
 use Rattle.runs.specs.Lists.{gather}
 use Rattle.runs.proofs.Gathered.{In, among}
@@ -38,11 +38,11 @@ module _ {A : Type 0} where
     where
       clash : (z : A) (i j : ℕ) → i < length l → length l ≤ j → j < length (l ++ m) → get_or (l ++ m) i z ≡ get_or (l ++ m) j z → ⊥
       clash z i j p n q e =
-          let same : get_or l i z ≡ get_or m (j - length l) z = sym (get_or_append l m z i p) ∙ e ∙ rear l m j z n in
+          let same : get_or l i z ≡ get_or m (j - length l) z = sym (get_or-append l m z i p) ∙ e ∙ rear l m j z n in
           apart (get_or l i z) (in_at l i z p) (rw same (in_at m (j - length l) z (omega (arith, length-append l m))))
 
       go : (z : A) (i j : ℕ) → i < length (l ++ m) → j < length (l ++ m) → get_or (l ++ m) i z ≡ get_or (l ++ m) j z → Dec (i < length l) → Dec (j < length l) → i ≡ j
-      go z i j p q e (yes s) (yes t) = a.once z i j s t (sym (get_or_append l m z i s) ∙ e ∙ get_or_append l m z j t)
+      go z i j p q e (yes s) (yes t) = a.once z i j s t (sym (get_or-append l m z i s) ∙ e ∙ get_or-append l m z j t)
       go z i j p q e (yes s) (no t) = absurd (clash z i j s (omega arith) q e)
       go z i j p q e (no s) (yes t) = absurd (clash z j i t (omega arith) p (sym e))
       go z i j p q e (no s) (no t) =

@@ -3,7 +3,7 @@ use mathlib.Core.Path.{◌≡◌, refl, sym, ap, ap₂, ◌∙◌}
 use mathlib.Core.List.{List, [], ◌∷◌, ◌++◌, append_assoc, append-nil}
 use Prim.Native.Nat.{ℕ, ◌+◌, ◌*◌, ◌≤◌}
 use native.Mathlib.Nat.{add-zero, add_assoc}
-use native.Mathlib.Numerals.{add_one}
+use native.Mathlib.Numerals.{add-one}
 use native.Mathlib.Omega.{arith}
 use lib.IntN.{ℤ}
 use lib.ListN.{length, take, drop, set, length-append, take-append-drop}
@@ -29,7 +29,7 @@ written_more run at j l t q h =
     ap₂ (λ (u v : List ℤ). (u ++ t) ++ v) a b ∙ ap (λ (u : List ℤ). u ++ drop (at + length (l ++ t)) run) (append_assoc (take at run) l t)
 
 pub written_two : (run : List ℤ) (at : ℕ) (x y : ℤ) → at + 2 ≤ length run → set (set run at x) (at + 1) y ≡ written run at (x ∷ y ∷ [])
-written_two run at x y h = ap (λ (n : ℕ). set (set run at x) n y) (add_one at) ∙ sets-eq (x ∷ y ∷ []) run at h
+written_two run at x y h = ap (λ (n : ℕ). set (set run at x) n y) (add-one at) ∙ sets-eq (x ∷ y ∷ []) run at h
 
 -- The entries of tiles: two for each, and those of one list behind those of another.
 pub length_entries : (tiles : List Tile) → length (entries tiles) ≡ 2 * length tiles

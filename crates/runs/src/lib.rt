@@ -1,5 +1,7 @@
 // A list of tiles in a lent run: what every call that lists answers, and the one function that writes a tile.
 
+#![tactic(auto)]
+
 ghost use Rattle.runs.specs.Runs.{Put};
 
 use hexes::Tile;

@@ -9,7 +9,7 @@ use native.Mathlib.Omega.{arith}
 use lib.IntN.{ℤ, pos, nat_abs, ◌+ℤ◌, ◌-ℤ◌, ◌*ℤ◌}
 use lib.ListN.{length, get_or, set, length-set}
 use lib.Seq.{get_or-set_same, get_or-set_other}
-use borrow.Author.Tests.{le-leb, leb_true}
+use borrow.Author.Tests.{le-leb, leb-true}
 use Rattle.whole.specs.Euclid.{quotient, remainder}
 use Rattle.whole.proofs.Differences.{by1, by2, by3, by6, linear, d_mul}
 use Rattle.whole.proofs.Euclid.{euclid, remainder_turn}
@@ -58,7 +58,7 @@ module _ (map : Map) (t : Tile) (d : ℕ) where
   -- A tile and its neighbour are not both the centre.
   pub not_alone : of_map map t ≡ true → of_map map (neighbor_of t d) ≡ true → 0 < map.radius
   unfolding of_map
-  not_alone p q = go map.radius (leb_true _ _ p) (leb_true _ _ q)
+  not_alone p q = go map.radius (leb-true _ _ p) (leb-true _ _ q)
     where
       go : (r : ℕ) → distance_of map.centre t ≤ r → distance_of map.centre (neighbor_of t d) ≤ r → 0 < r
       go zero h k =

@@ -1,5 +1,7 @@
 // Maps, the dense index of their tiles, and rows and columns, both ways: the index arithmetic of hexx's src/storage/hexmod.rs, src/storage/hexagonal.rs and src/bounds.rs.
 
+#![tactic(auto)]
+
 ghost use Rattle.std.specs.Prelude.{◌≡◌};
 ghost use Rattle.hexes.specs.Answers.{TileTells};
 ghost use Rattle.storage.specs.Maps.{map_refusal, of_map, tiles_of};

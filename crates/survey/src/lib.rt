@@ -6,6 +6,8 @@
 // What a call refuses is told in place of its answer, as `refused` and the number. What cannot be read is told as `unreadable` and the number of the word, from 1: a word that is no
 // number or too large for its field, the first word that is missing, or the first word too many.
 
+#![tactic(auto)]
+
 mod input;
 mod report;
 mod ride;

@@ -1,6 +1,8 @@
 // A map with its efforts. `specs/` has paths over its tiles, their sums, the table of least sums and the neighbour rule, and routes, the best of them and the ranks; `proofs/`
 // shows that they are what the theories of `paths` and `routes` say of the map. The calls judge what every call over tables judges, and say what a step costs.
 
+#![tactic(auto)]
+
 ghost use Rattle.std.specs.Prelude.{◌≡◌, ◌≤◌};
 ghost use Rattle.hexes.specs.Limits.{barred};
 ghost use Rattle.terrain.specs.Judging.{lengths_fit, judged_start};

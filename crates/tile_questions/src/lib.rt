@@ -1,5 +1,7 @@
 // The questions about tiles, directions, grids and counts: for each kind, which arguments its words are, which call it makes, and which numbers its answer is.
 
+#![tactic(auto)]
+
 ghost use Rattle.questions.specs.Answers.{Lays};
 
 use conversions::{GridAnswer, GridPair};

@@ -1,5 +1,7 @@
 // Goes through every index of every map of a radius to 60 and back, by index and by row and column, and prints how many there were and how many were lost on the way.
 
+#![tactic(auto)]
+
 ghost use Rattle.std.specs.Prelude.{◌≤◌};
 
 use hexes::{Tile, TileAnswer, limits};

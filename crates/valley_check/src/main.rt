@@ -1,5 +1,7 @@
 // The same program as `valley`, run with the argument `check`: a valley on standard input, with totals of which one is wrong.
 
+#![tactic(auto)]
+
 fn main() {
     survey::run();
 }

@@ -2,6 +2,8 @@
 // A line holds a kind, the arguments and the answer as whole numbers; `#` opens a comment, and an empty line is skipped.
 // A line whose answer is another one is told with the answer that the crates give, so that a question can be asked by leaving the answer out.
 
+#![tactic(auto)]
+
 mod answer;
 mod report;
 mod verdict;

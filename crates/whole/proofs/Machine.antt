@@ -8,22 +8,22 @@ use lib.IntN.{ℤ, pos, nat_abs, ◌+ℤ◌, ◌-ℤ◌}
 use lib.Signed.{mag, non_neg, lt_z}
 use mir.Syntax.{Width, w32, w64}
 use mir.Val.{SFits, Fits, to_z, of_z, hbits}
-use mir.Facts.{sfits_widen, to_z_of_z}
+use mir.Facts.{sfits_widen, to_z-of_z}
 use borrow.Author.Rules.{rules}
 use Rattle.whole.proofs.Differences.{by1, by2, by4}
 use Rattle.whole.proofs.Kit.{dif, dif_b}
 
 -- Read back from a call's result: `read w64 c.f.result c.f.ok`. From a parameter: `to_z_of_z c.fits.x`.
 pub read : (w : Width) (z : ℤ) → mag z < 2 ^ hbits w → to_z w (of_z w z) ≡ z
-read w z h = to_z_of_z {w = w} (record { sfits = h })
+read w z h = to_z-of_z {w = w} (record { sfits = h })
 
 -- Read back from `x as i64`, at a number that fits 32 bits.
 pub read_wide : {z : ℤ} → SFits w32 z → to_z w64 (of_z w64 (to_z w32 (of_z w32 z))) ≡ z
-read_wide f = ap (λ (y : ℤ). to_z w64 (of_z w64 y)) (to_z_of_z f) ∙ to_z_of_z {w = w64} (sfits_widen tt f)
+read_wide f = ap (λ (y : ℤ). to_z w64 (of_z w64 y)) (to_z-of_z f) ∙ to_z-of_z {w = w64} (sfits_widen tt f)
 
 -- What is asked of `x as i64`, at a number that fits 32 bits.
 pub widens : {z : ℤ} → SFits w32 z → SFits w64 (to_z w32 (of_z w32 z))
-widens f = rw (to_z_of_z f) (sfits_widen tt f)
+widens f = rw (to_z-of_z f) (sfits_widen tt f)
 
 -- The sum and the difference of two widened numbers.
 pub wide_sum : (a b a' b' : ℤ) → a' ≡ a → b' ≡ b → SFits w32 a → SFits w32 b → SFits w64 (a' +ℤ b') × (nat_abs (a' +ℤ b') ≤ 2 ^ 32)
@@ -38,7 +38,7 @@ small_fits = by1 _ (simp dif_b (omega arith))
 
 -- `==` on signed numbers tells of their bits; of numbers that fit it tells of the numbers.
 pub same : (w : Width) (x y : ℤ) → SFits w x → SFits w y → of_z w x ≡ of_z w y → x ≡ y
-same w x y f g e = sym (to_z_of_z f) ∙ ap (to_z w) e ∙ to_z_of_z g
+same w x y f g e = sym (to_z-of_z f) ∙ ap (to_z w) e ∙ to_z-of_z g
 
 -- For `search`: the usual needs, and that a number that fits 32 bits fits 64.
 pub ruleset wide_needs = (rules, sfits_widen)

@@ -1,6 +1,8 @@
 // Whole numbers on the machine: the few operations on signed numbers that every other crate calls.
 // None wraps, none can be undefined, and none demands anything of its caller.
 
+#![tactic(auto)]
+
 ghost use Rattle.std.specs.Prelude.{◌≡◌, ◌<◌, ◌≤◌, ◌^◌, pos, negsuc, nat_abs, ◌+ℤ◌, ◌-ℤ◌, ◌<ℤ◌};
 ghost use Rattle.whole.specs.Euclid.{quotient, remainder};
 

@@ -22,13 +22,13 @@ opposite_fits = by3 _ (simp dif (omega arith))
 opposite_is : (z z' n o : ℤ) → z' ≡ z → SFits w64 z → z <ℤ pos 0 → n ≡ z' +ℤ pos 1 → o ≡ pos 0 -ℤ n → (T (non_neg o) × Fits w64 (nat_abs o)) × ((z ≡ negsuc (nat_abs o)) × (nat_abs o < 2 ^ 63))
 opposite_is = by4 _ (simp dif (omega arith))
 
-add-result : tie.Need-overflow-add-result
+add-result : tie.Need-overflow_add-result
 add-result c = next_fits _ _ (to_z-of_z c.ranges.z) c.ranges.z c.requires
 
-sub-result : tie.Need-overflow-sub-result
+sub-result : tie.Need-overflow_sub-result
 sub-result c = opposite_fits _ _ _ (to_z-of_z c.ranges.z) c.ranges.z c.requires (to_z-of_z (add-result c))
 
-cast-result : tie.Need-overflow-cast-result
+cast-result : tie.Need-overflow_cast-result
 cast-result c = (opposite_is _ _ _ _ (to_z-of_z c.ranges.z) c.ranges.z c.requires (to_z-of_z (add-result c)) (to_z-of_z (sub-result c))).0
 
 returns : tie.Need-returns

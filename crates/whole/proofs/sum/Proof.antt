@@ -7,13 +7,13 @@ use Rattle.whole.proofs.Machine.{read_wide, wide_needs, wide_sum}
 use Rattle.whole.proofs.sum.Statement.{statement}
 use Rattle.whole.proofs.sum.Tie as tie
 
-cast-result : tie.Need-overflow-cast-result
+cast-result : tie.Need-overflow_cast-result
 cast-result c = search wide_needs
 
-cast-result-2 : tie.Need-overflow-cast-result-2
+cast-result-2 : tie.Need-overflow_cast-result-2
 cast-result-2 c = search wide_needs
 
-add-result : tie.Need-overflow-add-result
+add-result : tie.Need-overflow_add-result
 add-result c = (wide_sum _ _ _ _ (read_wide c.ranges.a) (read_wide c.ranges.b) c.ranges.a c.ranges.b).0
 
 returns : tie.Need-returns

@@ -2,7 +2,7 @@
 use mathlib.Core.Path.{sym, ap, ap₂, ◌∙◌}
 use mir.Syntax.{w32}
 use mir.Val.{SFits}
-use mir.Facts.{to_z_of_z}
+use mir.Facts.{to_z-of_z}
 use borrow.Author.Rules.{rules}
 use Rattle.hexes.specs.Answers.{origin, tile_answer}
 use Rattle.hexes.specs.declared.TileAnswer.{TileAnswer}
@@ -33,7 +33,7 @@ returns c =
     let given = t.struct_told.given in
     let x : SFits w32 f.answer.given.0.0.x = record { sfits = given.0.1 } in
     let y : SFits w32 f.answer.given.0.0.y = record { sfits = given.1.0.1 } in
-    c.pair_of.ensures ∙ ap₂ (pair_of 0) (to_z_of_z x) (to_z_of_z y) ∙ ap told (sym f.answer.given.1)
+    c.pair_of.ensures ∙ ap₂ (pair_of 0) (to_z-of_z x) (to_z-of_z y) ∙ ap told (sym f.answer.given.1)
 
 returns-2 : tie.Need-returns-2
 returns-2 c = c.pair-of2.ensures ∙ ap told (sym c.before.before.answer2.given.1)

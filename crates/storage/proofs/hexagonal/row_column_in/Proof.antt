@@ -6,7 +6,7 @@ use lib.IntN.{ℤ, pos, ◌+ℤ◌, ◌-ℤ◌}
 use lib.Signed.{◌≤ℤ◌}
 use mir.Syntax.{w32}
 use mir.Val.{SFits, to_z, of_z}
-use mir.Facts.{to_z_of_z}
+use mir.Facts.{to_z-of_z}
 use borrow.Author.Rules.{rules}
 use Rattle.whole.proofs.Differences.{le_to}
 use Rattle.whole.proofs.Machine.{small_fits}
@@ -21,13 +21,13 @@ differs_x : (c : tie.After-struct-told) → to_z w32 (of_z w32 c.before.before.a
 differs_x c =
     let s = c.before.before in
     let t : SFits w32 s.args.tile.x = record { sfits = c.struct_told.given.0.1 } in
-    ap₂ ◌-ℤ◌ (to_z_of_z t) (to_z_of_z (small_fits s.args.map.centre.x (omega (arith, s.requires.0))))
+    ap₂ ◌-ℤ◌ (to_z-of_z t) (to_z-of_z (small_fits s.args.map.centre.x (omega (arith, s.requires.0))))
 
 differs_y : (c : tie.After-struct-told) → to_z w32 (of_z w32 c.before.before.args.tile.y) -ℤ to_z w32 (of_z w32 c.before.before.args.map.centre.y) ≡ c.before.before.args.tile.y -ℤ c.before.before.args.map.centre.y
 differs_y c =
     let s = c.before.before in
     let t : SFits w32 s.args.tile.y = record { sfits = c.struct_told.given.1.0.1 } in
-    ap₂ ◌-ℤ◌ (to_z_of_z t) (to_z_of_z (small_fits s.args.map.centre.y (omega (arith, s.requires.1.0))))
+    ap₂ ◌-ℤ◌ (to_z-of_z t) (to_z-of_z (small_fits s.args.map.centre.y (omega (arith, s.requires.1.0))))
 
 from-rim-requires : tie.Need-from-rim-requires
 from-rim-requires c κs =

@@ -6,7 +6,7 @@ use native.Mathlib.Omega.{arith}
 use lib.IntN.{ℤ, pos, nat_abs, ◌+ℤ◌, ◌-ℤ◌, ◌*ℤ◌}
 use mir.Syntax.{w32, w64}
 use mir.Val.{SFits, to_z, of_z}
-use mir.Facts.{to_z_of_z, to_z_pos}
+use mir.Facts.{to_z-of_z, to_z_pos}
 use borrow.Author.Rules.{rules}
 use Rattle.whole.specs.Euclid.{remainder}
 use Rattle.whole.proofs.Differences.{by1, by2}
@@ -67,7 +67,7 @@ add-wrapped : tie.Need-overflow-add-wrapped
 unfolding shift dx start
 add-wrapped c =
     let dy = c.before.difference2 in
-    rw (to_z_of_z (mul-wrapped c), factors c, read w64 dy.result dy.type-inv) (fits _ (sum_small dy.result (pos (shift c) *ℤ dx c) dy.ensures.1 (product_small c)))
+    rw (to_z-of_z (mul-wrapped c), factors c, read w64 dy.result dy.type-inv) (fits _ (sum_small dy.result (pos (shift c) *ℤ dx c) dy.ensures.1 (product_small c)))
 
 area-of-requires : tie.Need-area-of-requires
 area-of-requires c κs = search rules
@@ -87,10 +87,10 @@ returns c =
     let ty : SFits w32 a.tile.y = record { sfits = t.1.0.1 } in
     let cx = small_fits a.map.centre.x (omega (arith, (start k).pre.0)) in
     let cy = small_fits a.map.centre.y (omega (arith, (start k).pre.1.0)) in
-    let dy_is = read w64 y.result y.type-inv ∙ y.ensures.0 ∙ ap₂ ◌-ℤ◌ (to_z_of_z ty) (to_z_of_z cy) in
-    let dx_is = x.ensures.0 ∙ ap₂ ◌-ℤ◌ (to_z_of_z tx) (to_z_of_z cx) in
-    let product = to_z_of_z (mul-wrapped k) ∙ factors k ∙ ap (λ (d : ℤ). pos (shift k) *ℤ d) dx_is in
-    c.wrapped.ensures ∙ ap₂ remainder (to_z_of_z (add-wrapped k) ∙ ap₂ ◌+ℤ◌ dy_is product) c.before.area_of.ensures
+    let dy_is = read w64 y.result y.type-inv ∙ y.ensures.0 ∙ ap₂ ◌-ℤ◌ (to_z-of_z ty) (to_z-of_z cy) in
+    let dx_is = x.ensures.0 ∙ ap₂ ◌-ℤ◌ (to_z-of_z tx) (to_z-of_z cx) in
+    let product = to_z-of_z (mul-wrapped k) ∙ factors k ∙ ap (λ (d : ℤ). pos (shift k) *ℤ d) dx_is in
+    c.wrapped.ensures ∙ ap₂ remainder (to_z-of_z (add-wrapped k) ∙ ap₂ ◌+ℤ◌ dy_is product) c.before.area_of.ensures
 
 pub index_in_spec : {M : Type 1} → statement M
 index_in_spec =
