@@ -10,8 +10,7 @@ use mir.Val.{SFits, Fits}
 use mir.Facts.{to_z-of_z}
 use Rattle.whole.proofs.Differences.{by2, by3, by4}
 use Rattle.whole.proofs.Kit.{dif}
-use Rattle.whole.proofs.below.Statement.{statement}
-use Rattle.whole.proofs.below.Tie as tie
+use Rattle.whole.proofs.below.Goals as goal
 
 next_fits : (z z' : ℤ) → z' ≡ z → SFits w64 z → z <ℤ pos 0 → SFits w64 (z' +ℤ pos 1)
 next_fits = by2 _ (simp dif (omega arith))
@@ -22,17 +21,14 @@ opposite_fits = by3 _ (simp dif (omega arith))
 opposite_is : (z z' n o : ℤ) → z' ≡ z → SFits w64 z → z <ℤ pos 0 → n ≡ z' +ℤ pos 1 → o ≡ pos 0 -ℤ n → (T (non_neg o) × Fits w64 (nat_abs o)) × ((z ≡ negsuc (nat_abs o)) × (nat_abs o < 2 ^ 63))
 opposite_is = by4 _ (simp dif (omega arith))
 
-add-result : tie.Need-overflow_add-result
-add-result c = next_fits _ _ (to_z-of_z c.ranges.z) c.ranges.z c.requires
+pub overflow_add-result : goal.overflow_add-result
+overflow_add-result c = next_fits _ _ (to_z-of_z c.ranges.z) c.ranges.z c.requires
 
-sub-result : tie.Need-overflow_sub-result
-sub-result c = opposite_fits _ _ _ (to_z-of_z c.ranges.z) c.ranges.z c.requires (to_z-of_z (add-result c))
+pub overflow_sub-result : goal.overflow_sub-result
+overflow_sub-result c = opposite_fits _ _ _ (to_z-of_z c.ranges.z) c.ranges.z c.requires (to_z-of_z (overflow_add-result c))
 
-cast-result : tie.Need-overflow_cast-result
-cast-result c = (opposite_is _ _ _ _ (to_z-of_z c.ranges.z) c.ranges.z c.requires (to_z-of_z (add-result c)) (to_z-of_z (sub-result c))).0
+pub overflow_cast-result : goal.overflow_cast-result
+overflow_cast-result c = (opposite_is _ _ _ _ (to_z-of_z c.ranges.z) c.ranges.z c.requires (to_z-of_z (overflow_add-result c)) (to_z-of_z (overflow_sub-result c))).0
 
-returns : tie.Need-returns
-returns c = (opposite_is _ _ _ _ (to_z-of_z c.ranges.z) c.ranges.z c.requires (to_z-of_z (add-result c)) (to_z-of_z (sub-result c))).1
-
-pub below_spec : {M : Type 1} → statement M
-below_spec = tie.close (tie.spec add-result sub-result cast-result returns)
+pub returns : goal.returns
+returns c = let all = (opposite_is _ _ _ _ (to_z-of_z c.ranges.z) c.ranges.z c.requires (to_z-of_z (overflow_add-result c)) (to_z-of_z (overflow_sub-result c))).1 in record { z_value = all.0; upper_bound = all.1 }
