@@ -18,14 +18,14 @@ ghost use Rattle.conversions.specs.Doubled.{to_doubled, FromDoubled};
 use hexes::{Tile, TileAnswer, refusals};
 
 // A pair of a grid.
-#[derive(Drop)]
+#[derive(Clone, Copy)]
 pub struct GridPair {
     pub column: i32,
     pub row: i32,
 }
 
 // A pair of a grid, or the number of a refusal.
-#[derive(Drop)]
+#[derive(Clone, Copy)]
 pub enum GridAnswer {
     Found(GridPair),
     Refused(u32),

@@ -10,7 +10,7 @@ use crate::{GridAnswer, GridPair};
 use hexes::{Place, Tile, TileAnswer, refusals};
 
 // How far a column slants, or that the mode is unknown.
-#[derive(Drop)]
+#[derive(Clone, Copy)]
 enum Slant {
     By(i64),
     Unknown,

@@ -9,7 +9,7 @@ use storage::{Index, Map};
 
 // Which table the sums are for. For totals a step is walked as it is, at the price of the tile that it enters. For ranks it is walked the other way, so that the sums are those of
 // the routes to one end: it leaves the tile that the route enters, and weighs that tile's effort.
-#[derive(Drop)]
+#[derive(Clone, Copy)]
 pub(crate) enum Table {
     Totals,
     Ranks,

@@ -11,7 +11,7 @@ use hexes::{Tile, refusals};
 use storage::{Index, IndexAnswer, Map};
 
 // What the totals check answers: 0, or a refusal number, or 9 and the lowest dense index at which the neighbour rule is broken. With every other number the index is 0.
-#[derive(Drop)]
+#[derive(Clone, Copy)]
 pub struct Verdict {
     pub number: u32,
     pub broken: Index,

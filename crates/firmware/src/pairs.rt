@@ -18,7 +18,7 @@ use hexes::{Tile, TileAnswer, refusals};
 use storage::{Index, RowColumn, RowColumnAnswer};
 
 // A pair that a call tells, named as a tile's coordinates are. Where the arguments are refused, it is the number of the refusal and zeros; number 0 is no refusal.
-#[derive(Drop)]
+#[derive(Clone, Copy)]
 struct PairTold {
     number: u32,
     laid: Tile,

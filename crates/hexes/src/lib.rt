@@ -11,29 +11,29 @@ ghost use Rattle.hexes.specs.Directions.{step_of, turned_by};
 ghost use Rattle.hexes.specs.Answers.{TileTells, judged_tile};
 
 // A tile by its axial coordinates.
-#[derive(Drop)]
+#[derive(Clone, Copy)]
 pub struct Tile {
     pub x: i32,
     pub y: i32,
 }
 
 // A pair of coordinates that a tile may not be able to hold: what a sum or a conversion gives before it is judged.
-#[derive(Drop)]
+#[derive(Clone, Copy)]
 pub struct Place {
     pub x: i64,
     pub y: i64,
 }
 
 // A direction number, 0 to 5 counter-clockwise from (1, 0). It is a type of its own, so that no index is taken for one.
-#[derive(Drop)]
+#[derive(Clone, Copy)]
 pub struct Direction(pub u32);
 
 // What a direction adds to a tile's x and y.
-#[derive(Drop)]
+#[derive(Clone, Copy)]
 pub struct Step(pub i32, pub i32);
 
 // A tile, or the number of a refusal.
-#[derive(Drop)]
+#[derive(Clone, Copy)]
 pub enum TileAnswer {
     Found(Tile),
     Refused(u32),

@@ -25,7 +25,7 @@ const UNTOUCHED: i32 = -7;
 const BY_ENTRY: usize = 400;
 
 // The arguments: K x y first last direction sense room. `direction` is the vertex where the kind asks for one.
-#[derive(Drop)]
+#[derive(Clone, Copy)]
 struct ListQuestion {
     centre: Tile,
     first: u32,
@@ -36,7 +36,7 @@ struct ListQuestion {
 }
 
 // Seven words as the arguments of a list.
-#[derive(Drop)]
+#[derive(Clone, Copy)]
 enum ListArguments {
     Is(ListQuestion),
     Not,

@@ -11,7 +11,7 @@ use questions::arguments::{TileArgument, UnsignedArgument, tile_at, unsigned_at}
 use storage::{Index, IndexAnswer, Map, NO_INDEX, RowColumn, RowColumnAnswer};
 
 // Three words as a map.
-#[derive(Drop)]
+#[derive(Clone, Copy)]
 enum MapArgument {
     Is(Map),
     Not,

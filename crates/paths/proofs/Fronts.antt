@@ -38,7 +38,7 @@ pub data Route (G : Land) (t : ℕ) : ℕ → List ℕ → ℕ → Type 0 where
   there : Route G t t [] 0
   first : {u d x w v : ℕ} {ds : List ℕ} → Step G u d x w → Route G t x ds v → Route G t u (d ∷ ds) (w + v)
 
-pub onto : {G : Land} {s u t v x : ℕ} {ds es : List ℕ} → Walk G s ds u v → Route G t u es x → Walk G s (reverse_aux es ds) t (v + x)
+pub onto : {G : Land} {s t u v x : ℕ} {ds es : List ℕ} → Walk G s ds u v → Route G t u es x → Walk G s (reverse_aux es ds) t (v + x)
 onto {v = v} p there = rw add-zero p
 onto p (first st r) = rw (← add_assoc) (onto (then p st) r)
 

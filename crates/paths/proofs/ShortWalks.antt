@@ -43,6 +43,7 @@ record Short (G : Land) (s t v n : ℕ) : Type 0 where
 -- A trail cut off at a tile that it meets.
 cut : {G : Land} {s : ℕ} {ds ts : List ℕ} {t v x : ℕ} → Trail G s ds ts t v → In x (t ∷ ts) → Short G s x v (length ds)
 cut lone (inl e) = record { ds = []; ts = []; sum = 0; trail = rw e lone; fits = omega arith; cheaper = inl refl }
+cut {G = G} {s = s} lone (inr i) = elim i [ ]
 cut (more {ds = ds} {ts = ts} {u = u} {v = v} {d = d} {w = w} p st o) (inl e) =
     record { ds = d ∷ ds; ts = u ∷ ts; sum = v + w; trail = rw e (more p st o); fits = omega arith; cheaper = inl refl }
 cut (more p st o) (inr i) =

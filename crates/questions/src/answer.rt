@@ -6,7 +6,7 @@ ghost use Rattle.questions.specs.Answers.{answered, of_tile, word_of, laid_of, l
 use hexes::TileAnswer;
 
 // An answer of at most three numbers, with how many words its question took, the kind included, and how many numbers it has. Numbers past the last are 0.
-#[derive(Drop)]
+#[derive(Clone, Copy)]
 pub struct Answer {
     pub took: usize,
     pub length: usize,
@@ -16,14 +16,14 @@ pub struct Answer {
 }
 
 // What became of a question that is answered by at most three numbers.
-#[derive(Drop)]
+#[derive(Clone, Copy)]
 pub enum Asked {
     Answered(Answer),
     Unreadable,
 }
 
 // What became of a question whose answer is laid out: how many words it took, the kind included, and how many numbers its answer has.
-#[derive(Drop)]
+#[derive(Clone, Copy)]
 pub enum Laid {
     Numbers(usize, usize),
     Unreadable,

@@ -6,21 +6,21 @@ ghost use Rattle.questions.specs.Arguments.{signed_of, unsigned_of, signed_at, u
 use hexes::Tile;
 
 // A word as a signed number of 32 bits.
-#[derive(Drop)]
+#[derive(Clone, Copy)]
 pub enum SignedArgument {
     Is(i32),
     Not,
 }
 
 // A word as an unsigned number of 32 bits.
-#[derive(Drop)]
+#[derive(Clone, Copy)]
 pub enum UnsignedArgument {
     Is(u32),
     Not,
 }
 
 // Two words as a tile.
-#[derive(Drop)]
+#[derive(Clone, Copy)]
 pub enum TileArgument {
     Is(Tile),
     Not,

@@ -28,7 +28,7 @@ const ROOM: usize = 1024;
 const UNTOUCHED: u32 = 7777;
 
 // The arguments before the tables.
-#[derive(Drop)]
+#[derive(Clone, Copy)]
 struct TableQuestion {
     map: Map,
     start: Tile,
@@ -36,7 +36,7 @@ struct TableQuestion {
 }
 
 // Six words as the arguments before the tables.
-#[derive(Drop)]
+#[derive(Clone, Copy)]
 enum TableArguments {
     Is(TableQuestion),
     Not,

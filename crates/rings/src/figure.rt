@@ -5,7 +5,7 @@ ghost use Rattle.hexes.specs.Limits.{range_limit};
 ghost use Rattle.rings.specs.Leaves.{legs_of, ring_leg, leg_at};
 
 // A ring, an edge between two corners, or the two halves of edges that meet in a corner.
-#[derive(Drop)]
+#[derive(Clone, Copy)]
 pub(crate) enum Shape {
     Ring,
     Edge,
@@ -13,7 +13,7 @@ pub(crate) enum Shape {
 }
 
 // A shape with the direction, or vertex, and the sense in which it is listed.
-#[derive(Drop)]
+#[derive(Clone, Copy)]
 pub(crate) struct Figure {
     pub(crate) shape: Shape,
     pub(crate) direction: u32,
@@ -21,7 +21,7 @@ pub(crate) struct Figure {
 }
 
 // A leg of `count` tiles: from the corner in direction `out`, as far out as the range, it goes along out + 2 in sense 0 and out + 4 in sense 1, with `skip` tiles left out first.
-#[derive(Drop)]
+#[derive(Clone, Copy)]
 pub(crate) struct Leg {
     pub(crate) out: u32,
     pub(crate) sense: u32,

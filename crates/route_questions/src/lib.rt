@@ -34,7 +34,7 @@ const UNRANKED: u64 = 7777;
 const UNTOUCHED: i32 = -7;
 
 // The arguments before the lengths.
-#[derive(Drop)]
+#[derive(Clone, Copy)]
 struct RouteQuestion {
     map: Map,
     start: Tile,
@@ -42,7 +42,7 @@ struct RouteQuestion {
 }
 
 // Seven words as the arguments before the lengths.
-#[derive(Drop)]
+#[derive(Clone, Copy)]
 enum RouteArguments {
     Is(RouteQuestion),
     Not,

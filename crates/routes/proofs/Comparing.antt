@@ -26,13 +26,16 @@ better_once v x ds es (inr (p, inl a)) (inr (q, inr (b, l))) = omega arith
 better_once v x ds es (inr (p, inr (a, k))) (inr (q, inl b)) = omega arith
 better_once v x ds es (inr (p, inr (a, k))) (inr (q, inr (b, l))) = smaller_once ds es k l
 
--- The directions of a route tell its cost.
-pub route_cost : {G : Ground} {e u v x : ℕ} {ds : List ℕ} → Route G e u ds v → Route G e u ds x → v ≡ x
-route_cost (there o) (there o') = refl
-route_cost (first {t = t} {w = w} o st r) (first {t = t'} {w = w'} o' st' r') =
+-- The directions of a route tell its cost, wherever it ends.
+costs_same : {G : Ground} {e e' u v x : ℕ} {ds : List ℕ} → Route G e u ds v → Route G e' u ds x → v ≡ x
+costs_same (there o) (there o') = refl
+costs_same {e' = e'} (first {t = t} {w = w} o st r) (first {t = t'} {w = w'} o' st' r') =
     let q : t' ≡ t = sym st'.leads ∙ st.leads in
     let z : w ≡ w' = cc (q, st.price, st'.price) in
-    omega (arith, route_cost r (rw q at r'))
+    omega (arith, costs_same {e' = e'} r (rw q at r'))
+
+pub route_cost : {G : Ground} {e u v x : ℕ} {ds : List ℕ} → Route G e u ds v → Route G e u ds x → v ≡ x
+route_cost r r' = costs_same r r'
 
 -- One route is the best: one list of directions, hence one number of steps, and one cost.
 pub best_unique : {G : Ground} {s e : ℕ} {ds es : List ℕ} {v x : ℕ} → BestRoute G s e ds v → BestRoute G s e es x → (ds ≡ es) × (v ≡ x)

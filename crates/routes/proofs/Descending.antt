@@ -105,14 +105,18 @@ module _ (L : Land) (T : ℕ → ℕ) (e b : ℕ) (he : e < L.tiles) (R : Right 
       let a : t ≡ L.prev u d = sym st.from ∙ ap (L.prev u) (sym i) in
       ⊎_elim (λ x. inl (cc)) (λ x. inr (inr (i, x))) (rec (rw a at p) (z.0 ∙ ap T a))
 
-  -- Every other walk of that sum has a larger list.
-  pub descent_first : {u x : ℕ} {ds es : List ℕ} → u < L.tiles → T u < L.mark → Descent L T e u ds → Walk L e es u x → x ≡ T u → (ds ≡ es) ⊎ Smaller ds es
-  descent_first h m arrived here z = inl refl
-  descent_first h m arrived (then p st) z = absurd (omega (arith, home m, st.paid))
-  descent_first h m (down q c r) here z = absurd (q refl)
-  descent_first h m (down {u = u} {d = d} q c r) (then {d = k} p st) z =
+  -- Every other walk of that sum has a larger list. The walk's start has a name of its own, so that both can be taken apart.
+  first_from : {s u x : ℕ} {ds es : List ℕ} → s ≡ e → u < L.tiles → T u < L.mark → Descent L T e u ds → Walk L s es u x → x ≡ T u → (ds ≡ es) ⊎ Smaller ds es
+  first_from o h m arrived here z = inl refl
+  first_from o h m arrived (then p st) z = absurd (omega (arith, home m, st.paid))
+  first_from o h m (down q c r) here z = absurd (q o)
+  first_from {s = s} o h m (down {u = u} {d = d} q c r) (then {d = k} p st) z =
       let f = taken_falls L T u d h m c in
-      decide c st p (tight m p st z) (λ p' z'. descent_first f.step.on (omega (arith, f.falls)) r p' z') (dec_lt k d) (dec_lt d k)
+      let p' = rw o at p in
+      decide c st p' (tight m p' st z) (λ p'' z'. first_from {s = e} refl f.step.on (omega (arith, f.falls)) r p'' z') (dec_lt k d) (dec_lt d k)
+
+  pub descent_first : {u x : ℕ} {ds es : List ℕ} → u < L.tiles → T u < L.mark → Descent L T e u ds → Walk L e es u x → x ≡ T u → (ds ≡ es) ⊎ Smaller ds es
+  descent_first h m r p z = first_from refl h m r p z
 
 -- What a program that goes down step by step has to know of the list ahead: at e it is empty, and elsewhere it begins with the direction taken.
 pub descent_over : {L : Land} {T : ℕ → ℕ} {e u : ℕ} {ds : List ℕ} → u ≡ e → Descent L T e u ds → ds ≡ []

@@ -7,7 +7,7 @@ ghost use Rattle.runs.specs.Runs.{Put};
 use hexes::Tile;
 
 // The number of tiles that were listed, or the number of a refusal.
-#[derive(Drop)]
+#[derive(Clone, Copy)]
 pub enum ListAnswer {
     Listed(u32),
     Refused(u32),

@@ -17,18 +17,18 @@ mod hexmod;
 use hexes::{Direction, Tile, TileAnswer, limits, refusals};
 
 // A map: the tiles at most `radius` away from `centre`.
-#[derive(Drop)]
+#[derive(Clone, Copy)]
 pub struct Map {
     pub centre: Tile,
     pub radius: u32,
 }
 
 // A dense index. It is a type of its own, so that no direction is taken for one.
-#[derive(Drop)]
+#[derive(Clone, Copy)]
 pub struct Index(pub u32);
 
 // The index of a tile, or the number of a refusal.
-#[derive(Drop)]
+#[derive(Clone, Copy)]
 pub enum IndexAnswer {
     Found(Index),
     Refused(u32),
@@ -38,14 +38,14 @@ pub enum IndexAnswer {
 pub const NO_INDEX: u32 = 4294967295;
 
 // A row of a map and a column in it, both from 0 on.
-#[derive(Drop)]
+#[derive(Clone, Copy)]
 pub struct RowColumn {
     pub row: u32,
     pub column: u32,
 }
 
 // The row and column of a tile, or the number of a refusal.
-#[derive(Drop)]
+#[derive(Clone, Copy)]
 pub enum RowColumnAnswer {
     Found(RowColumn),
     Refused(u32),

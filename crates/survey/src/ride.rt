@@ -21,7 +21,7 @@ const RADIUS: usize = limits::RADIUS as usize;
 pub(crate) const ROOM: usize = 3 * RADIUS * (RADIUS + 1) + 1;
 
 // What is asked: the verdict on totals or the plan, of a ride on a map that begins and ends somewhere and may take so much.
-#[derive(Drop)]
+#[derive(Clone, Copy)]
 struct Ride {
     checks: bool,
     map: Map,

@@ -12,7 +12,7 @@ const NO_NUMBER: i64 = 2_000_000_000_000;
 const LARGEST: u64 = 4_294_967_295;
 
 // What the bytes of the word in progress make so far.
-#[derive(Drop)]
+#[derive(Clone, Copy)]
 enum Stage {
     // No word is in progress.
     Between,
@@ -23,7 +23,7 @@ enum Stage {
 }
 
 // What is kept from byte to byte: the word in progress, and how many words are done.
-#[derive(Drop)]
+#[derive(Clone, Copy)]
 pub(crate) struct Reading {
     stage: Stage,
     negative: bool,

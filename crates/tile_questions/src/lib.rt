@@ -12,7 +12,7 @@ use questions::arguments::{
 };
 
 // Two words as a pair of a grid.
-#[derive(Drop)]
+#[derive(Clone, Copy)]
 enum PairArgument {
     Is(GridPair),
     Not,

@@ -36,7 +36,7 @@ fn lost(map: Map, i: u32, tile: Tile) -> u32
 }
 
 // The number of indices of a map, and how many of them were lost.
-#[derive(Drop)]
+#[derive(Clone, Copy)]
 struct Tour {
     indices: u32,
     lost: u32,

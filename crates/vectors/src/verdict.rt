@@ -4,7 +4,7 @@ use questions::answer::Laid;
 use questions::arguments::{UnsignedArgument, unsigned_at};
 
 // What a vector showed, with its kind, and where it differs how many numbers the answer has.
-#[derive(Drop)]
+#[derive(Clone, Copy)]
 pub(crate) enum Verdict {
     Agrees(u32),
     Differs(u32, usize),

@@ -3,7 +3,7 @@
 ghost use Rattle.std.specs.Prelude.{◌<◌};
 
 // How far a line has been read.
-#[derive(Drop)]
+#[derive(Clone, Copy)]
 enum Stage {
     // No byte of the line was read yet: only here does `#` open a comment.
     LineStart,
@@ -20,7 +20,7 @@ enum Stage {
 }
 
 // What is kept from byte to byte: the stage, the word in progress, and how many words of the line are done.
-#[derive(Drop)]
+#[derive(Clone, Copy)]
 pub(crate) struct Reading {
     stage: Stage,
     negative: bool,
@@ -29,7 +29,7 @@ pub(crate) struct Reading {
 }
 
 // What a line turned out to be.
-#[derive(Drop)]
+#[derive(Clone, Copy)]
 pub(crate) enum Line {
     Skipped,
     Spoilt,
@@ -37,7 +37,7 @@ pub(crate) enum Line {
 }
 
 // A sign and a magnitude, as a number.
-#[derive(Drop)]
+#[derive(Clone, Copy)]
 enum Number {
     Is(i64),
     TooLarge,
