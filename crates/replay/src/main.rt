@@ -2,6 +2,8 @@
 
 #![tactic(auto)]
 
-fn main() {
-    vectors::run();
+use std::io;
+
+fn main(rt: HostRuntime) -> io::Result<()> {
+    vectors::run(&rt)
 }

@@ -15,40 +15,49 @@ mod tables;
 mod words;
 
 use ride::ROOM;
+use std::env::FillError;
+use std::io;
+use std::rt::Env;
 use tables::HEAD;
 
 // How many words the longest input has, and one more, so that a word too many is seen.
 const WORDS: usize = HEAD + 2 * ROOM + 1;
 
 // Does what the arguments of the program ask for: without one the plan, and with `check` alone the check.
-pub fn run() {
-    let count = os::arg_count();
-    if count < 2 {
-        told(false);
-        return;
+pub fn run(rt: &(impl Input + Print + Env)) -> io::Result<()> {
+    if !is_given(rt, 1) {
+        return told(rt, false);
     }
-    if count == 2 {
-        if check_asked() {
-            told(true);
-            return;
+    if !is_given(rt, 2) {
+        if check_asked(rt) {
+            return told(rt, true);
         }
     }
-    report::usage();
+    report::usage(rt)
+}
+
+// Is there an argument with this number?
+fn is_given(rt: &impl Env, number: usize) -> bool {
+    let mut word = [0u8; 8];
+    !matches!(rt.arg(number, &mut word), Err(FillError::NotPresent))
 }
 
 // Is the first argument `check`?
-fn check_asked() -> bool {
+fn check_asked(rt: &impl Env) -> bool {
     let mut word = [0u8; 8];
-    let length = os::arg(1, &mut word);
-    check::same(&word[..length], b"check")
+    match rt.arg(1, &mut word) {
+        Ok(length) => &word[..length] == b"check".as_slice(),
+        Err(_) => false,
+    }
 }
 
 // Reads the input, and tells what it asks for.
-fn told(checks: bool) {
+fn told(rt: &(impl Input + Print), checks: bool) -> io::Result<()> {
     let mut words = [0i64; WORDS];
-    let count = input::read_words(&mut words);
+    let count = input::read_words(rt, &mut words)?;
     // No more words are counted than were stored, but the count alone does not say so.
     if count <= WORDS {
-        ride::tell(checks, &words[..count]);
+        ride::tell(rt, checks, &words[..count])?;
     }
+    Ok(())
 }

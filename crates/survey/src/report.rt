@@ -1,91 +1,71 @@
 // What is printed: answers, refusals, and what could not be read.
 
 use hexes::{limits, refusals};
-use libc::STDOUT_FILENO;
-use questions::answer::wide;
+use std::io;
 
 // How the program is called.
-pub(crate) fn usage() {
-    io::write_all(
-        STDOUT_FILENO,
-        b"usage: valley [check], with the valley on standard input\n",
-    );
+pub(crate) fn usage(rt: &impl Print) -> io::Result<()> {
+    println!(rt; "usage: valley [check], with the valley on standard input")
 }
 
 // `unreadable` and the number of a word.
-pub(crate) fn unreadable(word: usize) {
-    line(b"unreadable ", word as u64);
+pub(crate) fn unreadable(rt: &impl Print, word: usize) -> io::Result<()> {
+    println!(rt; "unreadable {word}")
 }
 
 // `refused` and the number of the refusal.
-pub(crate) fn refused(number: u32) {
-    line(b"refused ", number as u64);
+pub(crate) fn refused(rt: &impl Print, number: u32) -> io::Result<()> {
+    println!(rt; "refused {number}")
 }
 
 // The verdict of the totals check: `check accepted`; or the refusal, with the index at which the neighbour rule is broken where it is one of the totals.
-pub(crate) fn verdict(number: u32, broken: u32) {
+pub(crate) fn verdict(rt: &impl Print, number: u32, broken: u32) -> io::Result<()> {
     match number {
-        0 => accepted(),
-        refusals::NOT_RIGHT => line(b"refused 9 at ", broken as u64),
-        _ => refused(number),
+        0 => accepted(rt),
+        refusals::NOT_RIGHT => println!(rt; "refused 9 at {broken}"),
+        _ => refused(rt, number),
     }
 }
 
 // What is told of totals that are right.
-fn accepted() {
-    io::write_all(STDOUT_FILENO, b"check accepted\n");
+fn accepted(rt: &impl Print) -> io::Result<()> {
+    println!(rt; "check accepted")
 }
 
 // `totals`, and each of them on its own line.
-pub(crate) fn totals(totals: &[u32]) {
-    io::write_all(STDOUT_FILENO, b"totals\n");
-    let mut i: usize = 0;
-    while i < totals.len() {
-        total(totals[i]);
-        i += 1;
+pub(crate) fn totals(rt: &impl Print, totals: &[u32]) -> io::Result<()> {
+    println!(rt; "totals")?;
+    for it in totals {
+        total(rt, *it)?;
     }
+    Ok(())
 }
 
 // One total, `-` for no way.
-fn total(total: u32) {
+fn total(rt: &impl Print, total: u32) -> io::Result<()> {
     if total == limits::NO_WAY {
-        io::write_all(STDOUT_FILENO, b"-\n");
+        println!(rt; "-")
     } else {
-        line(b"", total as u64);
+        println!(rt; "{total}")
     }
 }
 
 // `route` and its number of tiles, and x and y of each on its own line, from the run that holds them.
-pub(crate) fn route(tiles: u32, run: &[i32]) {
-    line(b"route ", tiles as u64);
-    let mut i: u32 = 0;
-    while i < tiles {
-        tile(run, i);
-        i += 1;
+pub(crate) fn route(rt: &impl Print, tiles: u32, run: &[i32]) -> io::Result<()> {
+    println!(rt; "route {tiles}")?;
+    for i in 0..tiles {
+        tile(rt, run, i)?;
     }
+    Ok(())
 }
 
 // The tile with this number in the run, where the run has it: a tile is two entries, x and y.
-fn tile(run: &[i32], i: u32) {
+fn tile(rt: &impl Print, run: &[i32], i: u32) -> io::Result<()> {
     let at = 2 * i as usize;
     if at + 1 < run.len() {
-        signed(run[at], b" ");
-        signed(run[at + 1], b"\n");
+        let x = run[at];
+        let y = run[at + 1];
+        println!(rt; "{x} {y}")?;
     }
-}
-
-// A number with its sign, where that is a minus, and what follows it.
-fn signed(number: i32, after: &[u8]) {
-    if number < 0 {
-        io::write_all(STDOUT_FILENO, b"-");
-    }
-    io::print_decimal(STDOUT_FILENO, whole::absolute(wide(number)));
-    io::write_all(STDOUT_FILENO, after);
-}
-
-// A number after what it is, and the end of the line.
-fn line(label: &[u8], number: u64) {
-    io::write_all(STDOUT_FILENO, label);
-    io::print_decimal(STDOUT_FILENO, number);
-    io::write_all(STDOUT_FILENO, b"\n");
+    Ok(())
 }

@@ -12,6 +12,7 @@ use questions::arguments::{
     SignedArgument, TileArgument, UnsignedArgument, signed_at, tile_at, unsigned_at,
 };
 use runs::ListAnswer;
+use std::io;
 use storage::Map;
 
 // The largest radius of a map.
@@ -31,53 +32,55 @@ struct Ride {
 }
 
 // Tells what the words ask for: the verdict on totals that were read, or the plan. They begin with x and y of the centre, and the radius.
-pub(crate) fn tell(checks: bool, words: &[i64]) {
+pub(crate) fn tell(rt: &impl Print, checks: bool, words: &[i64]) -> io::Result<()> {
     let TileArgument::Is(centre) = tile_at(words, 0, 1) else {
-        tile_unreadable(words, 0);
-        return;
+        return tile_unreadable(rt, words, 0);
     };
     let UnsignedArgument::Is(radius) = unsigned_at(words, 2) else {
-        report::unreadable(3);
-        return;
+        return report::unreadable(rt, 3);
     };
-    on_map(checks, words, Map { centre, radius });
+    on_map(rt, checks, words, Map { centre, radius })
 }
 
 // Tells which of two words that are no tile is the first to be no number. Words are numbered from 1, and places from 0.
-fn tile_unreadable(words: &[i64], at: usize)
+fn tile_unreadable(rt: &impl Print, words: &[i64], at: usize) -> io::Result<()>
     requires { at ≤ 8 }
 {
-    report::unreadable(match signed_at(words, at) {
+    let word = match signed_at(words, at) {
         SignedArgument::Not => at + 1,
         SignedArgument::Is(_) => at + 2,
-    });
+    };
+    report::unreadable(rt, word)
 }
 
 // Judges the map, and reads x and y of the start.
-fn on_map(checks: bool, words: &[i64], map: Map) {
+fn on_map(rt: &impl Print, checks: bool, words: &[i64], map: Map) -> io::Result<()> {
     let number = storage::refusal_of(map);
     if number != 0 {
-        report::refused(number);
-        return;
+        return report::refused(rt, number);
     }
     let TileArgument::Is(start) = tile_at(words, 3, 4) else {
-        tile_unreadable(words, 3);
-        return;
+        return tile_unreadable(rt, words, 3);
     };
-    from_start(checks, words, map, start);
+    from_start(rt, checks, words, map, start)
 }
 
 // Reads x and y of the end, and the budget.
-fn from_start(checks: bool, words: &[i64], map: Map, start: Tile) {
+fn from_start(
+    rt: &impl Print,
+    checks: bool,
+    words: &[i64],
+    map: Map,
+    start: Tile,
+) -> io::Result<()> {
     let TileArgument::Is(end) = tile_at(words, 5, 6) else {
-        tile_unreadable(words, 5);
-        return;
+        return tile_unreadable(rt, words, 5);
     };
     let UnsignedArgument::Is(budget) = unsigned_at(words, 7) else {
-        report::unreadable(8);
-        return;
+        return report::unreadable(rt, 8);
     };
     with_tables(
+        rt,
         words,
         Ride {
             checks,
@@ -86,31 +89,36 @@ fn from_start(checks: bool, words: &[i64], map: Map, start: Tile) {
             end,
             budget,
         },
-    );
+    )
 }
 
 // Lends tables with an entry for each tile, and has them read.
-fn with_tables(words: &[i64], ride: Ride) {
+fn with_tables(rt: &impl Print, words: &[i64], ride: Ride) -> io::Result<()> {
     let area = storage::area(ride.map) as usize;
     // No map has more tiles, but the area alone does not say so.
     if area > ROOM {
-        return;
+        return Ok(());
     }
     let mut efforts = [0u16; ROOM];
     let mut totals = [0u32; ROOM];
-    read(words, ride, &mut efforts[..area], &mut totals[..area]);
+    read(rt, words, ride, &mut efforts[..area], &mut totals[..area])
 }
 
 // Reads the efforts, and of a check the totals too, and tells what is asked.
-fn read(words: &[i64], ride: Ride, efforts: &mut [u16], totals: &mut [u32])
+fn read(
+    rt: &impl Print,
+    words: &[i64],
+    ride: Ride,
+    efforts: &mut [u16],
+    totals: &mut [u32],
+) -> io::Result<()>
     requires { length efforts.old ≤ area_of radius_limit }
 {
     let word = tables::read(words, end(ride.checks, efforts.len()), efforts, totals);
     if word != 0 {
-        report::unreadable(word);
-        return;
+        return report::unreadable(rt, word);
     }
-    asked(ride, efforts, totals);
+    asked(rt, ride, efforts, totals)
 }
 
 // Where the words of a valley end that has this many tiles: behind the efforts, and of a check behind the totals.
@@ -121,18 +129,18 @@ fn end(checks: bool, area: usize) -> usize
 }
 
 // Tells the verdict on the totals, or the plan, whose totals are written over them.
-fn asked(ride: Ride, efforts: &[u16], totals: &mut [u32])
+fn asked(rt: &impl Print, ride: Ride, efforts: &[u16], totals: &mut [u32]) -> io::Result<()>
     requires { length efforts.now ≤ area_of radius_limit }
 {
     if ride.checks {
-        verdict_told(ride, efforts, totals);
+        verdict_told(rt, ride, efforts, totals)
     } else {
-        planned(ride, efforts, totals);
+        planned(rt, ride, efforts, totals)
     }
 }
 
 // Tells the verdict of the totals check.
-fn verdict_told(ride: Ride, efforts: &[u16], totals: &[u32]) {
+fn verdict_told(rt: &impl Print, ride: Ride, efforts: &[u16], totals: &[u32]) -> io::Result<()> {
     let verdict = field_of_movement::check_totals(
         ride.map,
         efforts,
@@ -140,11 +148,11 @@ fn verdict_told(ride: Ride, efforts: &[u16], totals: &[u32]) {
         ride.budget,
         totals,
     );
-    report::verdict(verdict.number, verdict.broken.0);
+    report::verdict(rt, verdict.number, verdict.broken.0)
 }
 
 // Tells the plan: the riding range, the verdict on its totals, and the route.
-fn planned(ride: Ride, efforts: &[u16], totals: &mut [u32])
+fn planned(rt: &impl Print, ride: Ride, efforts: &[u16], totals: &mut [u32]) -> io::Result<()>
     requires { length efforts.now ≤ area_of radius_limit }
 {
     let number = field_of_movement::riding_range(
@@ -155,16 +163,15 @@ fn planned(ride: Ride, efforts: &[u16], totals: &mut [u32])
         totals,
     );
     if number != 0 {
-        report::refused(number);
-        return;
+        return report::refused(rt, number);
     }
-    report::totals(totals);
-    verdict_told(ride, efforts, totals);
-    route_told(ride, efforts);
+    report::totals(rt, totals)?;
+    verdict_told(rt, ride, efforts, totals)?;
+    route_told(rt, ride, efforts)
 }
 
 // Tells the route. The run that it is written to has room for every tile of the largest map.
-fn route_told(ride: Ride, efforts: &[u16])
+fn route_told(rt: &impl Print, ride: Ride, efforts: &[u16]) -> io::Result<()>
     requires { length efforts.now ≤ area_of radius_limit }
 {
     let mut ranks = [0u64; ROOM];
@@ -178,7 +185,7 @@ fn route_told(ride: Ride, efforts: &[u16])
         &mut run,
     );
     match answer {
-        ListAnswer::Refused(number) => report::refused(number),
-        ListAnswer::Listed(tiles) => report::route(tiles, &run),
+        ListAnswer::Refused(number) => report::refused(rt, number),
+        ListAnswer::Listed(tiles) => report::route(rt, tiles, &run),
     }
 }

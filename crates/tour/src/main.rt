@@ -5,7 +5,7 @@
 ghost use Rattle.std.specs.Prelude.{◌≤◌};
 
 use hexes::{Tile, TileAnswer, limits};
-use libc::STDOUT_FILENO;
+use std::io;
 use storage::{Index, IndexAnswer, Map, RowColumnAnswer};
 
 // More indices than any map that is not refused has.
@@ -60,18 +60,12 @@ fn toured(map: Map) -> Tour {
 }
 
 // One line of the report: the radius, its indices, and how many were lost.
-fn report(radius: u32, tour: Tour) {
-    io::print_decimal(STDOUT_FILENO, radius as u64);
-    io::write_all(STDOUT_FILENO, b": ");
-    io::print_decimal(STDOUT_FILENO, tour.indices as u64);
-    io::write_all(STDOUT_FILENO, b" indices, ");
-    io::print_decimal(STDOUT_FILENO, tour.lost as u64);
-    io::write_all(STDOUT_FILENO, b" lost\n");
+fn report(rt: &impl Print, radius: u32, tour: Tour) -> io::Result<()> {
+    println!(rt; "{radius}: {} indices, {} lost", tour.indices, tour.lost)
 }
 
-fn main() {
-    let mut radius: u32 = 0;
-    while radius <= limits::RADIUS {
+fn main(rt: HostRuntime) -> io::Result<()> {
+    for radius in 0..limits::RADIUS + 1 {
         let map = Map {
             centre: Tile {
                 x: 1_000_000,
@@ -79,7 +73,7 @@ fn main() {
             },
             radius,
         };
-        report(radius, toured(map));
-        radius += 1;
+        report(&rt, radius, toured(map))?;
     }
+    Ok(())
 }

@@ -2,6 +2,8 @@
 
 #![tactic(auto)]
 
-fn main() {
-    survey::run();
+use std::io;
+
+fn main(rt: HostRuntime) -> io::Result<()> {
+    survey::run(&rt)
 }

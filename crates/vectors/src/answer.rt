@@ -1,37 +1,28 @@
 // An answer as a person reads it: the numbers that are laid out in a lent array, printed.
 
-use libc::STDOUT_FILENO;
+use std::io;
 
 // How many numbers of an answer are told: a long one must not bury the report.
 const SHOWN: usize = 12;
 
 // Prints the first `length` of the numbers, each after a space, two dots in place of those past the twelfth, and the end of the line.
-pub(crate) fn print(numbers: &[i64], length: usize) {
-    let mut i: usize = 0;
-    while i < SHOWN {
+pub(crate) fn print(rt: &impl Print, numbers: &[i64], length: usize) -> io::Result<()> {
+    for i in 0..SHOWN {
         if i < length {
-            print_at(numbers, i);
+            print_at(rt, numbers, i)?;
         }
-        i += 1;
     }
     if length > SHOWN {
-        io::write_all(STDOUT_FILENO, b" ..");
+        print!(rt; " ..")?;
     }
-    io::write_all(STDOUT_FILENO, b"\n");
+    println!(rt; "")
 }
 
-// Prints the number at a place, where there is one.
-fn print_at(numbers: &[i64], at: usize) {
+// Prints the number at a place after a space, where there is one.
+fn print_at(rt: &impl Print, numbers: &[i64], at: usize) -> io::Result<()> {
     if at < numbers.len() {
-        print_signed(numbers[at]);
+        let number = numbers[at];
+        print!(rt; " {number}")?;
     }
-}
-
-// Prints a number after a space: its sign, where that is a minus, and its size.
-fn print_signed(number: i64) {
-    io::write_all(STDOUT_FILENO, b" ");
-    if number < 0 {
-        io::write_all(STDOUT_FILENO, b"-");
-    }
-    io::print_decimal(STDOUT_FILENO, whole::absolute(number));
+    Ok(())
 }

@@ -1,7 +1,7 @@
 // The counts of a run, and the report that it prints.
 
 use crate::answer;
-use libc::STDOUT_FILENO;
+use std::io;
 
 // Every kind has a number below this: as many kinds are counted.
 const KINDS: u32 = 64;
@@ -35,57 +35,56 @@ pub(crate) fn agrees(counts: &mut [u64], kind: u32) {
 }
 
 // Counts a vector whose answer is another one, and tells that answer, which is the first `length` of the numbers.
-pub(crate) fn differs(counts: &mut [u64], kind: u32, numbers: &[i64], length: usize) {
+pub(crate) fn differs(
+    rt: &impl Print,
+    counts: &mut [u64],
+    kind: u32,
+    numbers: &[i64],
+    length: usize,
+) -> io::Result<()> {
     raise(counts, ran(kind));
     raise(counts, differed(kind));
-    if tells(counts, b" differs:") {
-        answer::print(numbers, length);
+    if tells(rt, counts, " differs:")? {
+        answer::print(rt, numbers, length)?;
     }
+    Ok(())
 }
 
 // Counts a line that could not be read.
-pub(crate) fn unreadable(counts: &mut [u64]) {
+pub(crate) fn unreadable(rt: &impl Print, counts: &mut [u64]) -> io::Result<()> {
     raise(counts, UNREADABLE);
-    tells(counts, b" unreadable\n");
+    tells(rt, counts, " unreadable\n")?;
+    Ok(())
 }
 
 // Prints a line for each kind that occurred, in rising order, and the count of what could not be read.
-pub(crate) fn print(counts: &[u64]) {
-    let mut kind: u32 = 0;
-    while kind < KINDS {
-        print_kind(kind, counts);
-        kind += 1;
+pub(crate) fn print(rt: &impl Print, counts: &[u64]) -> io::Result<()> {
+    for kind in 0..KINDS {
+        print_kind(rt, kind, counts)?;
     }
-    io::print_decimal(STDOUT_FILENO, count(counts, UNREADABLE));
-    io::write_all(STDOUT_FILENO, b" unreadable\n");
+    let unreadable = count(counts, UNREADABLE);
+    println!(rt; "{unreadable} unreadable")
 }
 
 // One kind's line, where the kind occurred.
-fn print_kind(kind: u32, counts: &[u64]) {
+fn print_kind(rt: &impl Print, kind: u32, counts: &[u64]) -> io::Result<()> {
     let run = count(counts, ran(kind));
     if run == 0 {
-        return;
+        return Ok(());
     }
-    labelled(b"kind ", kind as u64);
-    labelled(b": ", run);
-    labelled(b" run, ", count(counts, differed(kind)));
-    io::write_all(STDOUT_FILENO, b" differ\n");
+    let differ = count(counts, differed(kind));
+    println!(rt; "kind {kind}: {run} run, {differ} differ")
 }
 
 // Tells what is wrong with the line, unless enough lines were told, and says whether it did.
-fn tells(counts: &mut [u64], what: &[u8]) -> bool {
+fn tells(rt: &impl Print, counts: &mut [u64], what: &str) -> io::Result<bool> {
     if count(counts, TOLD) >= TELLS {
-        return false;
+        return Ok(false);
     }
     raise(counts, TOLD);
-    labelled(b"line ", count(counts, LINES));
-    io::write_all(STDOUT_FILENO, what)
-}
-
-// Prints a number after what it is.
-fn labelled(label: &[u8], number: u64) {
-    io::write_all(STDOUT_FILENO, label);
-    io::print_decimal(STDOUT_FILENO, number);
+    let line = count(counts, LINES);
+    print!(rt; "line {line}{what}")?;
+    Ok(true)
 }
 
 // Where the vectors of a kind that were run are counted. Of a kind past the last this lies past the array, where nothing is counted.
