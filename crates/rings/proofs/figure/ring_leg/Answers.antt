@@ -3,8 +3,7 @@ use mathlib.Core.Path.{◌≡◌, refl}
 use Prim.Native.Nat.{ℕ, zero, suc, ◌<◌, ◌≤◌}
 use native.Mathlib.Omega.{arith}
 use Rattle.rings.specs.Leaves.{ring_leg}
-use Rattle.rings.proofs.figure.ring_leg.Statement.{statement}
-use Rattle.rings.proofs.figure.ring_leg.Tie as tie
+use Rattle.rings.proofs.figure.ring_leg.Goals as goal
 
 some : (n i : ℕ) → 0 < n → n ≡ ring_leg n i
 unfolding ring_leg
@@ -23,14 +22,11 @@ no_more zero zero h f = absurd (f refl)
 no_more zero (suc i) h f = refl
 no_more (suc n) i h f = absurd (omega arith)
 
-returns : tie.Need-returns
-returns c = some c.before.args.range c.before.args.i c.if1.true
+pub returns-then-range-gt0 : goal.returns-then-range-gt0
+returns-then-range-gt0 c = some c.args.range c.args.i c.if-range-gt0.true
 
-returns-2 : tie.Need-returns-2
-returns-2 c = let s = c.before.before.args in centre_alone s.range s.i c.before.if1.false c.if2.true
+pub returns-then-i-eq0 : goal.returns-then-i-eq0
+returns-then-i-eq0 c = centre_alone c.args.range c.args.i c.if-range-gt0.false c.if-i-eq0.true
 
-returns-3 : tie.Need-returns-3
-returns-3 c = let s = c.before.before.args in no_more s.range s.i c.before.if1.false c.if2.false
-
-pub ring_leg_spec : {M : Type 1} → statement M
-ring_leg_spec = tie.close (tie.spec returns returns-2 returns-3)
+pub returns-else-i-eq0 : goal.returns-else-i-eq0
+returns-else-i-eq0 c = no_more c.args.range c.args.i c.if-range-gt0.false c.if-i-eq0.false

@@ -1,0 +1,18 @@
+use Prim.Native.Nat.{ℕ, ◌-◌, ◌≤◌}
+use mathlib.Core.List.{List}
+use Rattle.hexes.specs.declared.Tile.{Tile}
+use Rattle.runs.specs.Laid.{Laid}
+use Rattle.runs.specs.Lists.{gather}
+use Rattle.rings.specs.Leaves.{leg_at, leg_tiles}
+use Rattle.rings.specs.declared.figure.Figure.{Figure}
+use Rattle.rings.proofs.write.put_figure.Given as goal
+
+-- The tiles of leg i.
+abbrev pub leg_of : Tile → ℕ → Figure → ℕ → List Tile
+leg_of centre range figure i = leg_tiles centre range (leg_at figure.shape figure.direction figure.sense range i)
+
+abbrev pub invariant-loop-i : goal.invariant-loop-i
+invariant-loop-i l = Laid l.fn.run l.at (gather (leg_of l.centre l.range l.figure) l.i) l.next l.run × (l.i ≤ l.legs)
+
+abbrev pub decreases-loop-i : goal.decreases-loop-i
+decreases-loop-i l = l.legs - l.i
