@@ -57,7 +57,7 @@ right : (r a : ℕ) (y : ℤ) → a ≤ r → nat_abs y ≤ r → nat_abs (pos a
 right r a = by1 _ (λ c d hx hy hz p. let fy = simp dif_b at hy in let fz = simp dif_b at hz in let fp = simp dif_b at p in go c d hx (omega arith) (omega arith) (omega arith))
   where
     exact : (s v c d : ℕ) → v + d ≡ a * s + c → pos (area_of r) *ℤ pos 0 +ℤ pos v ≡ (c ⊝ d) +ℤ pos s *ℤ pos a
-    exact s v c d e = simp (linear, d_mul) (omega arith)
+    exact s v c d e = simp linear (omega arith)
 
     go : (c d : ℕ) → a ≤ r → (c ≤ d + r) × (d ≤ c + r) → (a + c ≤ d + r) × (d ≤ a + c + r) → d ≤ c + shift_of r * a → At r (pos a) (c ⊝ d)
     go c d hx hy hz p =
@@ -102,13 +102,13 @@ left r b = by1 _ (λ c d hx hy hz p. let fy = simp dif_b at hy in let fz = simp 
 
 -- Which half a tile lies in is seen from x, and at x = 0 from y.
 above : (r a : ℕ) (y : ℤ) → nat_abs y ≤ r → pos 0 ≤ℤ (y +ℤ pos (shift_of r) *ℤ pos (suc a))
-above r a = by1 _ (λ c d h. let f = simp dif_b at h in simp (linear, d_mul) (omega arith))
+above r a = by1 _ (λ c d h. let f = simp dif_b at h in simp linear (omega arith))
 
 under : (r a : ℕ) (y : ℤ) → nat_abs y ≤ r → (y +ℤ pos (shift_of r) *ℤ (0 ⊝ suc a)) ≤ℤ negsuc 0
 under r a = by1 _ (λ c d h. let f = simp dif_b at h in simp (linear, d_mul) (omega arith))
 
 pub strip_of : (r : ℕ) (x y : ℤ) → Disc r x y → At r x y
-strip_of r (pos zero) (pos b) d = right r zero (pos b) (omega arith) d.disc_y d.disc_sum (simp (linear, d_mul) (omega arith))
+strip_of r (pos zero) (pos b) d = right r zero (pos b) (omega arith) d.disc_y d.disc_sum (simp linear (omega arith))
 strip_of r (pos zero) (negsuc b) d = subst (λ (x : ℤ). At r x (negsuc b)) (dif_up 0 0) (left r zero (negsuc b) (omega arith) d.disc_y (rw (dif_up 0 0) d.disc_sum) (simp (linear, d_mul) (omega arith)))
 strip_of r (pos (suc a)) y d = right r (suc a) y d.disc_x d.disc_y d.disc_sum (above r a y d.disc_y)
 strip_of r (negsuc a) y d = subst (λ (x : ℤ). At r x y) (sym (d_negsuc a)) (left r (suc a) y d.disc_x d.disc_y (rw (sym (d_negsuc a)) d.disc_sum) (under r a y d.disc_y))
