@@ -8,6 +8,6 @@ pub returns-then-x-total_of : goal.returns-then-x-total_of
 returns-then-x-total_of c =
     let x = c.args in
     let both : Kept x.a x.base x.tree.now c.set_leaf.new.tree × Looked x.a x.base x.budget x.index x.w x.tree.now c.set_leaf.new.tree =
-        lowered x.a x.base x.budget x.index x.w x.tree.now c.requires.fit (omega arith) (omega arith) (omega arith) (omega (arith, c.if-x-total_of.true, c.total_of.ensures)) c.set_leaf.new.tree
-        (rw c.open_leaf.ensures at c.set_leaf.ensures) in
+    lowered x.a x.base x.budget x.index x.w x.tree.now c.requires.fit (omega arith) (omega arith) (omega arith) (omega (arith, c.if-x-total_of.true, c.total_of.ensures)) c.set_leaf.new.tree
+    (rw c.open_leaf.ensures at c.set_leaf.ensures) in
     record { kept = both.0; looked = both.1 }

@@ -1,4 +1,3 @@
-use Prim.Native.Nat.{◌≤◌}
 use Rattle.engine.specs.Settling.{Kept, LookedAround}
 use Rattle.engine.proofs.settling.look_around.Given as goal
 

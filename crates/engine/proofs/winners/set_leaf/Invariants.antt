@@ -1,5 +1,6 @@
+-- On the way up each node is right but the parent of k, and where the loop ends, that one is right too.
 use mathlib.Core.Path.{◌≡◌}
-use Prim.Native.Nat.{ℕ, ◌-◌, ◌*◌, ◌<◌, ◌≤◌}
+use Prim.Native.Nat.{ℕ, ◌*◌, ◌<◌, ◌≤◌}
 use lib.ListN.{length, get_or}
 use Rattle.engine.specs.Leaves.{indices}
 use Rattle.engine.specs.Trees.{leaf}
