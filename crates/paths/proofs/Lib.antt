@@ -9,5 +9,6 @@ pub mod Visits
 pub mod Falling
 pub mod LongerWalks
 pub mod Passes
+pub mod RightTable
 pub mod PlainWords
 pub mod Fronts

@@ -1,8 +1,7 @@
--- Passes over a covering list reach the right table, at the latest after one pass fewer than there are tiles; a pass that changes nothing is the end. So there is a right table.
+-- Passes over a covering list reach the right table, at the latest after one pass fewer than there are tiles; a pass that changes nothing is the end.
 use mathlib.Core.Path.{◌≡◌, refl, sym, ap, ◌∙◌}
-use mathlib.Core.Logic.{inr, ⊎_elim}
-use mathlib.Core.List.Memᴰ
-use mathlib.Core.List.{List, [], ◌∷◌, Memᴰ}
+use mathlib.Core.Logic.{inr}
+use mathlib.Core.List.{List, Memᴰ}
 use Prim.Native.Nat.{ℕ, zero, suc, ◌≤◌, ◌<◌}
 use native.Mathlib.Decide.{dec_lt, ℕ_discrete}
 use native.Mathlib.Omega.{arith}
@@ -13,7 +12,7 @@ use Rattle.paths.specs.NeighborRule.{best, want, Rule}
 use Rattle.paths.specs.Passes.{begin, pass, passes, Covers}
 use Rattle.paths.proofs.Offers.{best_le, maker, Wanted, home, good, gone, wanted, want_home}
 use Rattle.paths.proofs.Settling.{right_by}
-use Rattle.paths.proofs.RuleIsRight.{Ends, start, last, ends, rule_right, right_rule}
+use Rattle.paths.proofs.RuleIsRight.{Ends, start, last, ends, rule_right}
 use Rattle.paths.proofs.ShortWalks.{brief}
 use Rattle.paths.proofs.Lowering.{going_begin}
 use Rattle.paths.proofs.Visits.{begin_length, begin_home, begin_else, pass_still, passes_length}
@@ -66,12 +65,9 @@ module _ (G : Land) (s b : ℕ) (hs : s < G.tiles) (order : List ℕ) (C : Cover
           let c = brief hs p in
           omega (arith, c.fits, (passes_accounted k).old c.path (omega (arith, c.few)) (omega (arith, c.fits)) (omega (arith, c.fits)))
 
-  -- A table that keeps the rule is left as it is. So at the latest the pass whose number is the number of tiles changes nothing.
+  -- A table that keeps the rule is left as it is.
   pub rule_still : (L : List ℕ) → Rule G (at L) s b → pass G s b order L ≡ L
   rule_still L R = pass_still G s b order L (λ t m. R.each t (C.on t m))
-
-  pub passes_still : (k : ℕ) → G.tiles ≤ suc k → pass G s b order (passes G s b order k (begin G s)) ≡ passes G s b order k (begin G s)
-  passes_still k h = rule_still (after k) (right_rule G (at (after k)) s b hs (passes_right k h))
 
   -- A pass that changes nothing is the end: the table keeps the rule, and so is right.
   pub still_rule : (k : ℕ) → pass G s b order (passes G s b order k (begin G s)) ≡ passes G s b order k (begin G s) → Rule G (at (passes G s b order k (begin G s))) s b
@@ -106,24 +102,3 @@ module _ (G : Land) (s b : ℕ) (hs : s < G.tiles) (order : List ℕ) (C : Cover
 
   pub still_right : (k : ℕ) → pass G s b order (passes G s b order k (begin G s)) ≡ passes G s b order k (begin G s) → Right G (at (passes G s b order k (begin G s))) s b
   still_right k q = rule_right G (at (after k)) s b hs (still_rule k q)
-
--- There is a right table. A list of all tiles, the last first, covers the land, and passes over it make one.
-down_from : ℕ → List ℕ
-down_from zero = []
-down_from (suc n) = n ∷ down_from n
-
-down_has : (n t : ℕ) → t < n → Memᴰ t (down_from n)
-unfolding down_from
-down_has zero t h = absurd (omega arith)
-down_has (suc n) t h = elim (ℕ_discrete t n) [ yes e ↦ Memᴰ.head e | no e ↦ Memᴰ.tail (down_has n t (omega arith)) ]
-
-down_below : (n t : ℕ) → Memᴰ t (down_from n) → t < n
-unfolding down_from
-down_below zero t m = absurd (Memᴰ.not-nil m)
-down_below (suc n) t m = ⊎_elim (λ e. omega arith) (λ k. omega (arith, down_below n t k)) (Memᴰ.cases_cons m)
-
-pub right_exists : (G : Land) (s b : ℕ) → s < G.tiles → (L : List ℕ) × (length L ≡ G.tiles) × Right G (at L) s b
-right_exists G s b hs =
-    let order : List ℕ = down_from G.tiles in
-    let C : Covers G s order = record { on = down_below G.tiles; all = λ u d t w st e. down_has G.tiles t st.into } in
-    (passes G s b order G.tiles (begin G s), passes_length G s b order G.tiles (begin G s) ∙ begin_length G s hs, passes_right G s b hs order C G.tiles (omega arith))

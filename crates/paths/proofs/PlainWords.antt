@@ -15,7 +15,7 @@ use Rattle.paths.specs.Tables.{at, Right, Plain, Capped}
 use Rattle.paths.proofs.Settling.{right_unique}
 use Rattle.paths.proofs.RuleIsRight.{right_under}
 use Rattle.paths.proofs.ShortWalks.{brief, brief_capped, least_capped}
-use Rattle.paths.proofs.Passes.{right_exists}
+use Rattle.paths.proofs.RightTable.{right_exists}
 
 -- Two right lists of the land's length are equal.
 pub right_lists : (G : Land) (L L' : List ℕ) (s b : ℕ) → length L ≡ G.tiles → length L' ≡ G.tiles → Right G (at L) s b → Right G (at L') s b → L ≡ L'

@@ -1,4 +1,4 @@
--- Going down the ranks from a tile that has one ends at the end, by the best route. So there is a best route wherever there is a route at all.
+-- Going down the ranks from a tile that has one ends at the end, by the best route.
 use mathlib.Core.Path.{◌≡◌}
 use mathlib.Core.Logic.{◌⊎◌, inl, inr, ⊎_elim, ◌↔◌}
 use mathlib.Core.List.{List}
@@ -7,17 +7,15 @@ use native.Mathlib.Decide.{dec_lt}
 use native.Mathlib.Omega.{arith}
 use lib.ListN.{length}
 use Rattle.paths.specs.Lands.{Walk, Least}
-use Rattle.paths.specs.Tables.{at}
-use Rattle.paths.proofs.Passes.{right_exists}
 use Rattle.routes.specs.Grounds.{Ground, OpenTile}
 use Rattle.routes.specs.Routes.{Route, NoRoute, Better, BestRoute}
 use Rattle.routes.specs.Ranks.{multiplier, no_rank, LeastCost, FewestSteps, RankOf, near, far, Ranks, Fits}
 use Rattle.routes.specs.Turned.{turned, RightSums}
 use Rattle.routes.specs.Descents.{Descent}
-use Rattle.routes.proofs.Turning.{route_start, route_end, route_walk, Routed, walk_route}
+use Rattle.routes.proofs.Turning.{route_end, route_walk, Routed, walk_route}
 use Rattle.routes.proofs.LeastSums.{least_cost, fewest_steps}
-use Rattle.routes.proofs.RankLaws.{rank_splits, rank_none, rank_some}
-use Rattle.routes.proofs.RankTables.{sums_ranks, ranks_sums}
+use Rattle.routes.proofs.RankLaws.{rank_splits, rank_none}
+use Rattle.routes.proofs.RankTables.{ranks_sums}
 use Rattle.routes.proofs.Descending.{descend, descent_walk, descent_first}
 
 -- The list ds is the best route from s, and the rank of s tells its cost and its steps.
@@ -77,14 +75,3 @@ module _ {G : Ground} {e : ℕ} {T : ℕ → ℕ} (F : Fits G) (K : Ranks G e T)
 
         z : (T s / multiplier ≡ q.cost) × (T s % multiplier ≡ length ds)
         z = rank_splits F a f q.splits
-
--- Where there is a route there is a best one.
-pub best_exists : {G : Ground} {e s v : ℕ} {es : List ℕ} → Fits G → Route G e s es v → (ds : List ℕ) × (x : ℕ) × BestRoute G s e ds x
-best_exists {G} {e} {s} F r =
-    let hs : s < G.tiles = (route_start r).on in
-    let made = right_exists (turned G multiplier) e no_rank (route_end r).on in
-    let T : ℕ → ℕ = at made.0 in
-    let K : Ranks G e T = sums_ranks F (route_end r) made.2 in
-    let m : T s < no_rank = rank_some F (K.each s hs) r in
-    let d = down_ends F K hs m in
-    (d.0, T s / multiplier, (down_best F K hs m d.1).best)

@@ -7,4 +7,5 @@ pub mod RankLaws
 pub mod RankTables
 pub mod Descending
 pub mod DownIsBest
+pub mod BestExists
 pub mod Example

@@ -9,7 +9,7 @@ use native.Mathlib.Omega.{arith}
 use lib.ListN.{length}
 use lib.Seq.{ext_get_or}
 use Rattle.paths.specs.Tables.{at}
-use Rattle.paths.proofs.Passes.{right_exists}
+use Rattle.paths.proofs.RightTable.{right_exists}
 use Rattle.paths.proofs.PlainWords.{right_like, no_way}
 use Rattle.routes.specs.Grounds.{Ground, OpenTile}
 use Rattle.routes.specs.Routes.{NoRoute}

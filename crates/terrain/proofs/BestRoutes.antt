@@ -11,7 +11,7 @@ use Rattle.routes.specs.Grounds.{Ground}
 use Rattle.routes.specs.Ranks.{LeastCost, FewestSteps}
 use Rattle.routes.specs.Routes.{Route, NoRoute, Smaller, Better, BestRoute}
 use Rattle.routes.proofs.Comparing.{best_unique, best_least, best_fewest}
-use Rattle.routes.proofs.DownIsBest.{best_exists}
+use Rattle.routes.proofs.BestExists.{best_exists}
 use Rattle.hexes.specs.Limits.{barred, radius_limit}
 use Rattle.hexes.specs.declared.Tile.{Tile}
 use Rattle.storage.specs.Hexmod.{index_in}
