@@ -1,0 +1,16 @@
+-- `write_totals` meets its contract: before each turn the totals of the tiles passed stand in the table.
+use mathlib.Core.Path.{ap, ◌∙◌}
+use Prim.Native.Nat.{ℕ, min}
+use Rattle.hexes.specs.Limits.{no_way}
+use Rattle.engine.proofs.Writing.{written_none, written_next, written_all}
+use Rattle.engine.proofs.filling.write_totals.Goals as goal
+
+pub loop-i-init : goal.loop-i-init
+loop-i-init c = written_none
+
+pub loop-i-preserved : goal.loop-i-preserved
+loop-i-preserved c =
+    written_next _ c.loop-i-test.true (c.entry_of.ensures ∙ ap (λ (n : ℕ). min n no_way) c.total_at.ensures) c.loop-i.invariant
+
+pub returns : goal.returns
+returns c = written_all c.loop-i-test.false c.loop-i.invariant
