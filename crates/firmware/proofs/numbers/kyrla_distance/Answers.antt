@@ -6,15 +6,14 @@ use lib.IntN.{ℤ, pos, nat_abs, ◌+ℤ◌, ◌-ℤ◌}
 use mir.Syntax.{w32, w64}
 use mir.Val.{SFits}
 use mir.Facts.{to_z_pos}
-use borrow.Author.Rules.{rules}
 use Rattle.whole.proofs.Differences.{by2}
 use Rattle.whole.proofs.Kit.{dif_b}
 use Rattle.whole.proofs.Machine.{wide_difference}
 use Rattle.hexes.specs.Tiles.{tile, span, distance_of}
 use Rattle.hexes.specs.declared.Tile.{Tile}
 use Rattle.firmware.proofs.Calling.{read_tile}
-use Rattle.firmware.proofs.numbers.kyrla_distance.Statement.{statement}
-use Rattle.firmware.proofs.numbers.kyrla_distance.Tie as tie
+use Rattle.firmware.proofs.numbers.kyrla_distance.Goals as goal
+use Rattle.firmware.proofs.numbers.kyrla_distance.Goals.{After-distance}
 
 sum_small : (x y : ℤ) → nat_abs x ≤ 2 ^ 32 → nat_abs y ≤ 2 ^ 32 → nat_abs (x +ℤ y) ≤ 2 ^ 33
 sum_small = by2 _ (simp dif_b (omega arith))
@@ -28,22 +27,16 @@ distance_small a b ax ay bx by =
     omega (arith, dx, dy, both)
 
 -- What was asked for is the distance of the two tiles, whose coordinates are read back.
-as_asked : (c : tie.After-distance) → c.distance.result ≡ distance_of (tile c.before.args.ax c.before.args.ay) (tile c.before.args.bx c.before.args.by)
+as_asked : (c : After-distance) → c.distance.result ≡ distance_of (tile c.args.ax c.args.ay) (tile c.args.bx c.args.by)
 as_asked c =
-    let f = c.before.ranges in
+    let f = c.ranges in
     c.distance.ensures ∙ ap₂ distance_of (read_tile f.ax f.ay) (read_tile f.bx f.by)
 
-distance-requires : tie.Need-distance-requires
-distance-requires c κs = search rules
+pub overflow_cast-result : goal.overflow_cast-result
+overflow_cast-result c =
+    let a = c.args in
+    let f = c.ranges in
+    record { sfits = omega (arith, as_asked c, distance_small (tile a.ax a.ay) (tile a.bx a.by) f.ax f.ay f.bx f.by) }
 
-cast-result : tie.Need-overflow-cast-result
-cast-result c =
-    let s = c.before in
-    let a = s.args in
-    record { sfits = omega (arith, as_asked c, distance_small (tile a.ax a.ay) (tile a.bx a.by) s.ranges.ax s.ranges.ay s.ranges.bx s.ranges.by) }
-
-returns : tie.Need-returns
-returns c = to_z_pos w64 (cast-result c).sfits ∙ ap pos (as_asked c)
-
-pub kyrla_distance_spec : {M : Type 1} → statement M
-kyrla_distance_spec = tie.close (tie.spec distance-requires cast-result returns)
+pub returns : goal.returns
+returns c = to_z_pos w64 (overflow_cast-result c).sfits ∙ ap pos (as_asked c)

@@ -1,0 +1,17 @@
+-- `kyrla_ring_edge` meets its contract: the edge is asked for, and its answer told.
+use mathlib.Core.Path.{◌∙◌}
+use mir.Syntax.{w64}
+use Rattle.whole.proofs.Machine.{read}
+use Rattle.hexes.specs.declared.Tile.{Tile}
+use Rattle.rings.specs.Judged.{refusal_of}
+use Rattle.rings.specs.Rings.{edge}
+use Rattle.firmware.proofs.Answering.{list_call}
+use Rattle.firmware.proofs.Calling.{read_tile}
+use Rattle.firmware.proofs.lists.kyrla_ring_edge.Goals as goal
+
+pub returns : goal.returns
+returns c =
+    let a = c.args in
+    let centre = read_tile c.ranges.cx c.ranges.cy in
+    let answer = read w64 c.tiles_told.result c.tiles_told.type_inv ∙ c.tiles_told.ensures in
+    list_call (λ (t : Tile). refusal_of t a.range a.range a.vertex a.sense) (λ (t : Tile). edge t a.vertex a.sense a.range) centre a.run.now _ _ _ answer c.ring_edge.ensures

@@ -1,0 +1,17 @@
+-- `kyrla_spiral` meets its contract: the spiral is asked for, and its answer told.
+use mathlib.Core.Path.{◌∙◌}
+use mir.Syntax.{w64}
+use Rattle.whole.proofs.Machine.{read}
+use Rattle.hexes.specs.declared.Tile.{Tile}
+use Rattle.rings.specs.Judged.{refusal_of}
+use Rattle.rings.specs.Rings.{spiral}
+use Rattle.firmware.proofs.Answering.{list_call}
+use Rattle.firmware.proofs.Calling.{read_tile}
+use Rattle.firmware.proofs.lists.kyrla_spiral.Goals as goal
+
+pub returns : goal.returns
+returns c =
+    let a = c.args in
+    let centre = read_tile c.ranges.cx c.ranges.cy in
+    let answer = read w64 c.tiles_told.result c.tiles_told.type_inv ∙ c.tiles_told.ensures in
+    list_call (λ (t : Tile). refusal_of t a.first a.last a.direction a.sense) (λ (t : Tile). spiral t a.first a.last a.direction a.sense) centre a.run.now _ _ _ answer c.spiral.ensures
