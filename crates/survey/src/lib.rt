@@ -24,7 +24,8 @@ use tables::HEAD;
 const WORDS: usize = HEAD + 2 * ROOM + 1;
 
 // Does what the arguments of the program ask for: without one the plan, and with `check` alone the check.
-pub fn run(rt: &(impl Input + Print + Env)) -> io::Result<()> {
+// It takes the runtime itself: a bound on the arguments would bring in all that the toolchain assumes of the environment too, which nothing here asks for.
+pub fn run(rt: &HostRuntime) -> io::Result<()> {
     if !is_given(rt, 1) {
         return told(rt, false);
     }
@@ -37,13 +38,13 @@ pub fn run(rt: &(impl Input + Print + Env)) -> io::Result<()> {
 }
 
 // Is there an argument with this number?
-fn is_given(rt: &impl Env, number: usize) -> bool {
+fn is_given(rt: &HostRuntime, number: usize) -> bool {
     let mut word = [0u8; 8];
     !matches!(rt.arg(number, &mut word), Err(FillError::NotPresent))
 }
 
 // Is the first argument `check`?
-fn check_asked(rt: &impl Env) -> bool {
+fn check_asked(rt: &HostRuntime) -> bool {
     let mut word = [0u8; 8];
     match rt.arg(1, &mut word) {
         Ok(length) => &word[..length] == b"check".as_slice(),
