@@ -13,7 +13,7 @@ use borrow.Author.Rules.{rules}
 use Rattle.whole.proofs.Differences.{by1, by2, by4}
 use Rattle.whole.proofs.Kit.{dif, dif_b}
 
--- Read back from a call's result: `read w64 c.f.result c.f.ok`. From a parameter: `to_z_of_z c.fits.x`.
+-- Read back from a call's result: `read w64 c.f.result c.f.type_inv`. From a parameter: `to_z-of_z c.ranges.x`.
 pub read : (w : Width) (z : ℤ) → mag z < 2 ^ hbits w → to_z w (of_z w z) ≡ z
 read w z h = to_z-of_z {w = w} (record { sfits = h })
 
@@ -40,7 +40,7 @@ small_fits = by1 _ (simp dif_b (omega arith))
 pub same : (w : Width) (x y : ℤ) → SFits w x → SFits w y → of_z w x ≡ of_z w y → x ≡ y
 same w x y f g e = sym (to_z-of_z f) ∙ ap (to_z w) e ∙ to_z-of_z g
 
--- For `search`: the usual needs, and that a number that fits 32 bits fits 64.
+-- For `search`: the usual rules, and that a number that fits 32 bits fits 64.
 pub ruleset wide_needs = (rules, sfits_widen)
 
 -- A number that the test `z < 0` let through is a natural number, and casts to an unsigned one.
