@@ -19,6 +19,7 @@ fn effort_at(efforts: &[u16], index: u32) -> u16
 }
 
 // What a step weighs in a rank, by the efforts of the tile that is left and of the tile that is entered; 0, which bars the step, if either is barred.
+#[tactic(auto, unfolding(crate::specs::Steps::weight_by))]
 fn weight_by(left: u16, entered: u16) -> u64
     ensures value { result ≡ weight_by left entered }
     ensures upper_bound { result ≤ largest_total }

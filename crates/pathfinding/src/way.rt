@@ -15,6 +15,7 @@ use runs::ListAnswer;
 use storage::{Index, Map};
 
 // Does the step from an open tile of a rank into tile t make up that rank? An index of the area or more is no tile.
+#[tactic(auto, using(crate::proofs::Stepping::no_tile, crate::proofs::Stepping::not_open, crate::proofs::Stepping::too_heavy, crate::proofs::Stepping::by_rest))]
 fn makes(efforts: &[u16], ranks: &[u64], t: usize, rank: u64) -> bool
     requires efforts_len { length efforts.now ≡ length ranks.now }
     requires rank_lt_no_rank { rank < no_rank }

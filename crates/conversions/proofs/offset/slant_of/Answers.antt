@@ -10,7 +10,7 @@ use Rattle.whole.specs.Euclid.{quotient, remainder}
 use Rattle.whole.proofs.Differences.{by3}
 use Rattle.whole.proofs.Euclid.{remainder_below}
 use Rattle.whole.proofs.Kit.{dif}
-use Rattle.whole.proofs.Machine.{read, read_wide}
+use Rattle.whole.proofs.Machine.{read_wide}
 use Rattle.conversions.specs.Offset.{parity, slant_of}
 use Rattle.conversions.proofs.GridLaws.{zero_known, one_known}
 use Rattle.conversions.proofs.offset.slant_of.Goals as goal
@@ -36,10 +36,14 @@ pub returns-in-0 : goal.returns-in-0
 returns-in-0 c =
     let z = read_wide c.ranges.z in
     let p = p_is c.ranges.z c.wrapped-p.ensures in
-    (zero_known c.in-0.is, cc (z, p, to_z-of_z (sums_fit _ _ _ z c.ranges.z p).0, c.half.ensures, read w64 c.half.result c.half.type_inv, even c.args.mode c.args.z c.in-0.is))
+    let s = to_z-of_z (sums_fit _ _ _ z c.ranges.z p).0 in
+    let e = even c.args.mode c.args.z c.in-0.is in
+    (zero_known c.in-0.is, grind (arith, to_z-of_z, z, p, s, e))
 
 pub returns-in-1 : goal.returns-in-1
 returns-in-1 c =
     let z = read_wide c.ranges.z in
     let p = p_is c.ranges.z c.wrapped-p.ensures in
-    (one_known c.in-1.is, cc (z, p, to_z-of_z (sums_fit _ _ _ z c.ranges.z p).1, c.half-in-1.ensures, read w64 c.half-in-1.result c.half-in-1.type_inv, odd c.args.mode c.args.z c.in-1.is))
+    let s = to_z-of_z (sums_fit _ _ _ z c.ranges.z p).1 in
+    let e = odd c.args.mode c.args.z c.in-1.is in
+    (one_known c.in-1.is, grind (arith, to_z-of_z, z, p, s, e))
