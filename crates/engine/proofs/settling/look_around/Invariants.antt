@@ -1,3 +1,4 @@
+-- The steps by the directions below d have been looked at.
 use Rattle.engine.specs.Settling.{Kept, LookedAround}
 use Rattle.engine.proofs.settling.look_around.Given as goal
 

@@ -1,3 +1,4 @@
+-- What is right of the totals on the way stays so from turn to turn, and the work that is left falls.
 use lib.ListN.{length}
 use Rattle.paths.specs.Lands.{Land}
 use Rattle.engine.specs.Trees.{Heap}

@@ -1,3 +1,4 @@
+-- The first k ranges are summed.
 use mathlib.Core.Path.{◌≡◌}
 use Prim.Native.Nat.{◌-◌, ◌*◌, ◌≤◌}
 use Rattle.rings.specs.Leaves.{tiles_of}

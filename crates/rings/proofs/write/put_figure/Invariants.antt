@@ -1,3 +1,4 @@
+-- The first i legs are laid.
 use Prim.Native.Nat.{ℕ, ◌-◌, ◌≤◌}
 use mathlib.Core.List.{List}
 use Rattle.hexes.specs.declared.Tile.{Tile}

@@ -1,3 +1,4 @@
+-- The figure is laid at the first k ranges.
 use Prim.Native.Nat.{◌-◌, ◌≤◌}
 use Rattle.runs.specs.Laid.{Laid}
 use Rattle.rings.specs.Leaves.{figures}

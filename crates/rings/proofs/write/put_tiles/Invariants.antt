@@ -1,3 +1,4 @@
+-- The first k tiles are laid.
 use Prim.Native.Nat.{◌-◌, ◌≤◌}
 use Rattle.runs.specs.Laid.{Laid}
 use Rattle.rings.specs.Leaves.{tiles_from}
