@@ -1,12 +1,15 @@
 -- Laws of doubled coordinates: no two tiles have the same pair, an odd pair has no tile, and an even one has the tile that its half gives.
 use mathlib.Core.Path.{◌≡◌, sym, ap, ap₂, ◌∙◌}
-use Prim.Native.Nat.{ℕ, zero, suc}
+use Prim.Native.Nat.{ℕ, zero, suc, ◌≤◌}
 use native.Mathlib.Omega.{arith}
-use lib.IntN.{ℤ, pos, ◌+ℤ◌, ◌-ℤ◌, ◌*ℤ◌}
+use lib.IntN.{ℤ, pos, nat_abs, ◌+ℤ◌, ◌-ℤ◌, ◌*ℤ◌}
+use mir.Syntax.{w32}
+use mir.Val.{SFits}
 use Rattle.whole.specs.Euclid.{quotient, remainder}
-use Rattle.whole.proofs.Differences.{by1, by3, by4}
+use Rattle.whole.proofs.Differences.{by1, by2, by3, by4}
 use Rattle.whole.proofs.Euclid.{remainder_below}
-use Rattle.whole.proofs.Kit.{dif}
+use Rattle.whole.proofs.Kit.{dif, dif_b}
+use Rattle.hexes.specs.Limits.{coordinate_limit}
 use Rattle.hexes.specs.Tiles.{tile}
 use Rattle.hexes.specs.declared.Tile.{Tile}
 use Rattle.conversions.specs.Grid.{pair}
@@ -17,6 +20,10 @@ use Rattle.conversions.proofs.GridLaws.{Injective}
 -- A coordinate that doubles is found from the sum and the other one.
 halved_same : (x u y v : ℤ) → pos 2 *ℤ x +ℤ y ≡ pos 2 *ℤ u +ℤ v → y ≡ v → x ≡ u
 halved_same = by4 _ (simp dif (omega arith))
+
+-- The column of a tile within the limit fits 32 bits, and so does what it is made of.
+pub column_fits : (x y : ℤ) → nat_abs x ≤ coordinate_limit → nat_abs y ≤ coordinate_limit → SFits w32 (pos 2 *ℤ x) × SFits w32 (pos 2 *ℤ x +ℤ y)
+column_fits = by2 _ (simp dif_b (omega arith))
 
 pub doubled_injective : (mode : ℕ) → Injective (doubled_of mode)
 unfolding Injective doubled_of

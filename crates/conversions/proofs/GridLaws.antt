@@ -1,32 +1,24 @@
 -- Laws of the way back from any grid: what is told where a tile is known that converts to the pair, and that one answer at most is told where no two tiles convert to the same pair.
 use mathlib.Core.Path.{◌≡◌, refl, sym, ap, subst, ◌∙◌}
 use mathlib.Core.Bool.{Bool, true, false, cond}
-use Prim.Native.Nat.{ℕ}
+use Prim.Native.Nat.{ℕ, zero, suc}
 use native.Mathlib.Omega.{arith}
-use borrow.Author.Tests.{le-leb, lt-leb}
-use Rattle.hexes.specs.Answers.{Told, Answer, found, refusal, accepted, origin, tile_answer, TileTells, refused_tile, judged_tile}
+use borrow.Author.Tests.{leb-true}
+use Rattle.std.proofs.lemmas.Bool.{both_ways}
+use Rattle.hexes.specs.Answers.{Told, Answer, accepted, origin, TileTells, refused_tile, judged_tile}
 use Rattle.hexes.specs.Refusals.{beyond_limit, unknown_number}
 use Rattle.hexes.specs.Tiles.{tile_at, within_limit}
 use Rattle.hexes.specs.declared.Place.{Place}
 use Rattle.hexes.specs.declared.Tile.{Tile}
-use Rattle.hexes.specs.declared.TileAnswer.{TileAnswer}
-use Rattle.hexes.proofs.Tells.{One, tells_more, enum_tells_one}
-use Rattle.conversions.specs.Grid.{no_pair, grid_answer, GridTells, refused_pair, known, to_grid, TheTile, FromGrid}
-use Rattle.conversions.specs.declared.GridAnswer.{GridAnswer}
+use Rattle.hexes.proofs.Tells.{One, tells_more, tells_one}
+use Rattle.conversions.specs.Grid.{no_pair, GridTells, refused_pair, known, to_grid, TheTile, FromGrid}
 use Rattle.conversions.specs.declared.GridPair.{GridPair}
 
-apart : {A : Type 0} {b : Bool} → b ≡ true → b ≡ false → A
-apart p q = let z : ◌≡◌ {A = ℕ} 0 1 = cc in absurd (omega arith)
-
--- The known numbers are 0 and 1.
-pub zero_known : {n : ℕ} → n ≡ 0 → known n ≡ true
-zero_known {n} e = le-leb n 1 (omega arith)
-
-pub one_known : {n : ℕ} → n ≡ 1 → known n ≡ true
-one_known {n} e = le-leb n 1 (omega arith)
-
-pub known_no : (n : ℕ) → (n ≡ 0 → ⊥) → (n ≡ 1 → ⊥) → known n ≡ false
-known_no n f g = lt-leb n 1 (omega arith)
+-- The known numbers are 0 and 1: what holds of both holds of every known number.
+pub known_two : (P : ℕ → Type 0) → P 0 → P 1 → (n : ℕ) → known n ≡ true → P n
+known_two P p q zero k = p
+known_two P p q (suc zero) k = q
+known_two P p q (suc (suc n)) k = let l = leb-true (suc (suc n)) 1 k in absurd (omega arith)
 
 -- The three ends of the way there.
 module _ (t : Tile) (chosen : Bool) (p : GridPair) where
@@ -51,17 +43,14 @@ judged_is convert asked at e told h = go (within_limit (tile_at at)) refl h
     go true w h = subst (TheTile convert asked) (sym h) (TheTile.within (tile_at at) e w)
     go false w h = subst (TheTile convert asked) (sym h) (TheTile.beyond (tile_at at) e w)
 
--- The chosen numbers are known, or not.
+-- Where the chosen numbers are known, that tile is told.
 pub from_known : {chosen : Bool} {convert : Tile → GridPair} {asked : GridPair} {told : Told Tile} → chosen ≡ true → TheTile convert asked told → FromGrid chosen convert asked told
-from_known k h = record { known_number_told = λ e. h; unknown_number_told = λ e. apart k e }
-
-pub from_unknown : {chosen : Bool} {convert : Tile → GridPair} {asked : GridPair} → chosen ≡ false → FromGrid chosen convert asked (refused_tile unknown_number)
-from_unknown k = record { known_number_told = λ e. apart e k; unknown_number_told = λ e. refl }
+from_known k h = record { known_number_told = λ e. h; unknown_number_told = λ e. absurd (both_ways _ e k) }
 
 -- So a place is judged, and told, as the way back asks.
-pub judged_tells : (chosen : Bool) (convert : Tile → GridPair) (asked : GridPair) (at : Place) (r : TileAnswer) → chosen ≡ true → convert (tile_at at) ≡ asked → TileTells r (λ told. told ≡ judged_tile at) → TileTells r (FromGrid chosen convert asked)
+pub judged_tells : (chosen : Bool) (convert : Tile → GridPair) (asked : GridPair) (at : Place) (r : Answer Tile) → chosen ≡ true → convert (tile_at at) ≡ asked → TileTells r (λ told. told ≡ judged_tile at) → TileTells r (FromGrid chosen convert asked)
 judged_tells chosen convert asked at r k same =
-    tells_more origin _ _ (λ told e. from_known k (judged_is convert asked at same told e)) (tile_answer r)
+    tells_more origin _ _ (λ told e. from_known k (judged_is convert asked at same told e)) r
 
 -- One answer at most.
 unfoldable pub Injective : (Tile → GridPair) → Type 0
@@ -70,9 +59,9 @@ Injective convert = (t u : Tile) → convert t ≡ convert u → t ≡ u
 the_tile_one : (convert : Tile → GridPair) (asked : GridPair) → Injective convert → One (TheTile convert asked)
 unfolding One Injective
 the_tile_one convert asked inj v w (TheTile.within t e p) (TheTile.within u f q) = ap accepted (inj t u (e ∙ sym f))
-the_tile_one convert asked inj v w (TheTile.within t e p) (TheTile.beyond u f q) = apart p (ap within_limit (inj t u (e ∙ sym f)) ∙ q)
+the_tile_one convert asked inj v w (TheTile.within t e p) (TheTile.beyond u f q) = absurd (both_ways _ q (ap within_limit (inj u t (f ∙ sym e)) ∙ p))
 the_tile_one convert asked inj v w (TheTile.within t e p) (TheTile.none n) = absurd (n t e)
-the_tile_one convert asked inj v w (TheTile.beyond t e p) (TheTile.within u f q) = apart q (ap within_limit (inj u t (f ∙ sym e)) ∙ p)
+the_tile_one convert asked inj v w (TheTile.beyond t e p) (TheTile.within u f q) = absurd (both_ways _ p (ap within_limit (inj t u (e ∙ sym f)) ∙ q))
 the_tile_one convert asked inj v w (TheTile.beyond t e p) (TheTile.beyond u f q) = refl
 the_tile_one convert asked inj v w (TheTile.beyond t e p) (TheTile.none n) = absurd (n t e)
 the_tile_one convert asked inj v w (TheTile.none n) (TheTile.within u f q) = absurd (n u f)
@@ -85,14 +74,5 @@ from_grid_one true convert asked inj v w p q = the_tile_one convert asked inj v 
 from_grid_one false convert asked inj v w p q = p.unknown_number_told refl ∙ sym (q.unknown_number_told refl)
 
 -- A rule that one thing told at most meets is told by one grid answer at most.
-grid_back : Answer GridPair → GridAnswer
-grid_back (found p) = GridAnswer.Found p
-grid_back (refusal n) = GridAnswer.Refused n
-
-grid_back_is : (r : GridAnswer) → grid_back (grid_answer r) ≡ r
-unfolding grid_back
-grid_back_is (GridAnswer.Found p) = refl
-grid_back_is (GridAnswer.Refused n) = refl
-
-pub grid_tells_one : (rule : Told GridPair → Type 0) → One rule → (r s : GridAnswer) → GridTells r rule → GridTells s rule → r ≡ s
-grid_tells_one = enum_tells_one no_pair grid_answer grid_back grid_back_is
+pub grid_tells_one : (rule : Told GridPair → Type 0) → One rule → (r s : Answer GridPair) → GridTells r rule → GridTells s rule → r ≡ s
+grid_tells_one = tells_one no_pair

@@ -4,6 +4,5 @@ pub mod Mirror
 pub mod NoConstant
 pub mod OffsetLaws
 pub mod RoundTrip
-pub mod Chosen
 pub mod DoubledLaws
 pub mod Unique

@@ -3,10 +3,9 @@
 use mathlib.Core.Path.{◌≡◌, refl, sym, ap, ◌∙◌}
 use mathlib.Core.Logic.{◌↔◌}
 use mathlib.Core.Bool.{Bool, true, false, cond}
-use Prim.Native.Nat.{ℕ, zero, suc, ◌≤◌}
+use Prim.Native.Nat.{ℕ}
 use native.Mathlib.Omega.{arith}
 use lib.IntN.{ℤ, ◌+ℤ◌, ◌-ℤ◌, +ℤ_comm}
-use borrow.Author.Tests.{leb-true}
 use Rattle.whole.specs.Euclid.{remainder}
 use Rattle.whole.proofs.Differences.{by2}
 use Rattle.whole.proofs.Kit.{dif}
@@ -20,7 +19,7 @@ use Rattle.conversions.specs.Leaves.{exchanged_tile, exchanged_pair}
 use Rattle.conversions.specs.Offset.{offset_of}
 use Rattle.conversions.specs.declared.GridPair.{GridPair}
 use Rattle.conversions.proofs.DoubledLaws.{odd_of, width_tile, width_none}
-use Rattle.conversions.proofs.GridLaws.{from_known}
+use Rattle.conversions.proofs.GridLaws.{known_two, from_known}
 use Rattle.conversions.proofs.Mirror.{Mirrored, pointy_mirrors, height_mirrors}
 use Rattle.conversions.proofs.OffsetLaws.{flat_tile}
 
@@ -72,20 +71,20 @@ none_mirrored convert mirror m asked = (
 )
 
 pub odd_has_no_tile : (mode : ℕ) (asked : GridPair) → known mode ≡ true → (remainder (asked.column +ℤ asked.row) 2 ≡ 1) ↔ ((t : Tile) → doubled_of mode t ≡ asked → ⊥)
-odd_has_no_tile zero asked k = odd_width asked
-odd_has_no_tile (suc zero) asked k =
+odd_has_no_tile mode asked =
     let same = ap (λ (s : ℤ). remainder s 2) (+ℤ_comm asked.row asked.column) in
-    let there = none_mirrored (doubled_of 0) (doubled_of 1) height_mirrors asked in (
+    let there = none_mirrored (doubled_of 0) (doubled_of 1) height_mirrors asked in
+    known_two (λ m. (remainder (asked.column +ℤ asked.row) 2 ≡ 1) ↔ ((t : Tile) → doubled_of m t ≡ asked → ⊥)) (odd_width asked) (
       (λ h. there.0 ((odd_width (exchanged_pair asked)).0 (same ∙ h))),
       (λ none. sym same ∙ (odd_width (exchanged_pair asked)).1 (there.1 none)),
     )
-odd_has_no_tile (suc (suc mode)) asked k = let l = leb-true (suc (suc mode)) 1 k in absurd (omega arith)
+    mode
 
 -- Every offset pair has a tile, so the way back from an offset grid is never refused by 4.
-some_tile : (mode orientation : ℕ) (asked : GridPair) → orientation ≤ 1 → ((t : Tile) → offset_of mode orientation t ≡ asked → ⊥) → ⊥
-some_tile mode zero asked l none = none _ (flat_tile mode asked)
-some_tile mode (suc zero) asked l none = (none_mirrored (offset_of mode 0) (offset_of mode 1) (pointy_mirrors mode) asked).1 none _ (flat_tile mode (exchanged_pair asked))
-some_tile mode (suc (suc orientation)) asked l none = absurd (omega arith)
+some_tile : (mode : ℕ) (asked : GridPair) (orientation : ℕ) → known orientation ≡ true → ((t : Tile) → offset_of mode orientation t ≡ asked → ⊥) → ⊥
+some_tile mode asked =
+    known_two (λ o. ((t : Tile) → offset_of mode o t ≡ asked → ⊥) → ⊥) (λ none. none _ (flat_tile mode asked))
+    (λ none. (none_mirrored (offset_of mode 0) (offset_of mode 1) (pointy_mirrors mode) asked).1 none _ (flat_tile mode (exchanged_pair asked)))
 
 pub offset_never_odd : (mode orientation : ℕ) (asked : GridPair) (told : Told Tile) → known orientation ≡ true → TheTile (offset_of mode orientation) asked told → told.number ≡ odd_pair → ⊥
-offset_never_odd mode orientation asked told k h e = some_tile mode orientation asked (leb-true orientation 1 k) (told_none (offset_of mode orientation) asked told h e)
+offset_never_odd mode orientation asked told k h e = some_tile mode asked orientation k (told_none (offset_of mode orientation) asked told h e)

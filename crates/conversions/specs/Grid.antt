@@ -1,25 +1,20 @@
 -- Grids: a conversion takes each tile to a pair of column and row. The way back asks for the one tile within the limit that converts to a given pair.
 use Rattle.std.specs.Prelude.{◌≡◌, Bool, true, false, ℕ, leb, ℤ, pos}
-use Rattle.hexes.specs.Answers.{Told, Answer, found, refusal, Tells, accepted, refused, provided, refused_tile}
+use Rattle.hexes.specs.Answers.{Told, Answer, Tells, accepted, refused, provided, refused_tile}
 use Rattle.hexes.specs.Refusals.{beyond_limit, unknown_number, odd_pair}
 use Rattle.hexes.specs.Tiles.{within_limit}
 use Rattle.hexes.specs.declared.Tile.{Tile}
 use Rattle.conversions.specs.declared.GridPair.{GridPair}
-use Rattle.conversions.specs.declared.GridAnswer.{GridAnswer}
 
 abbrev pub pair : ℤ → ℤ → GridPair
 pair column row = record { column = column; row = row }
 
--- A `GridAnswer` as an answer, what it tells, and a refusal in its terms.
+-- What the answer of a call that finds a pair tells, and a refusal in its terms.
 abbrev pub no_pair : GridPair
 no_pair = pair (pos 0) (pos 0)
 
-abbrev pub grid_answer : GridAnswer → Answer GridPair
-grid_answer (GridAnswer.Found p) = found p
-grid_answer (GridAnswer.Refused n) = refusal n
-
-abbrev pub GridTells : GridAnswer → (Told GridPair → Type 0) → Type 0
-GridTells r = Tells no_pair (grid_answer r)
+abbrev pub GridTells : Answer GridPair → (Told GridPair → Type 0) → Type 0
+GridTells = Tells no_pair
 
 abbrev pub refused_pair : ℕ → Told GridPair
 refused_pair = refused no_pair

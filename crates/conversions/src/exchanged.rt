@@ -1,40 +1,53 @@
-// The two coordinates exchanged, of a tile, of a pair and of the answers that hold them.
+// The two axes of a grid, kept or exchanged. One number chooses: of flat and pointy grids the orientation, of doubled ones the mode.
 
 ghost use Rattle.std.specs.Prelude.{◌≡◌};
-ghost use Rattle.conversions.specs.Leaves.{exchanged_tile, exchanged_pair, exchanged_tile_answer, exchanged_grid_answer};
+ghost use Rattle.conversions.specs.Leaves.{axes_of, tile_by, pair_by, Chosen};
 
-use crate::{GridAnswer, GridPair};
-use hexes::{Tile, TileAnswer};
+use crate::GridPair;
+use hexes::{Refusal, Tile};
 
-pub(crate) fn tile(t: Tile) -> Tile
-    ensures { result ≡ exchanged_tile t }
-{
-    Tile { x: t.y, y: t.x }
+#[derive(Clone, Copy, Debug, PartialEq, Eq)]
+pub(crate) enum Axes {
+    Kept,
+    Exchanged,
 }
 
-pub(crate) fn pair(p: GridPair) -> GridPair
-    ensures { result ≡ exchanged_pair p }
-{
-    GridPair {
-        column: p.row,
-        row: p.column,
+impl TryFrom<u32> for Axes {
+    type Error = Refusal;
+
+    ghost try_from_gives = { λ number answer. Chosen number (axes_of number) answer };
+
+    fn try_from(number: u32) -> Result<Axes, Refusal> {
+        match number {
+            0 => Ok(Axes::Kept),
+            1 => Ok(Axes::Exchanged),
+            _ => Err(Refusal::UnknownNumber),
+        }
     }
 }
 
-pub(crate) fn tile_answer(answer: TileAnswer) -> TileAnswer
-    ensures { result ≡ exchanged_tile_answer answer }
-{
-    match answer {
-        TileAnswer::Found(t) => TileAnswer::Found(tile(t)),
-        TileAnswer::Refused(n) => TileAnswer::Refused(n),
+// A tile and a pair name their coordinates differently, so a trait over both would be longer than these two methods.
+impl Axes {
+    // A tile by these axes. The same axes lead back.
+    pub(crate) fn tile(self, t: Tile) -> Tile
+        ensures { result ≡ tile_by self t }
+    {
+        match self {
+            Axes::Kept => t,
+            Axes::Exchanged => Tile { x: t.y, y: t.x },
+        }
     }
-}
 
-pub(crate) fn pair_answer(answer: GridAnswer) -> GridAnswer
-    ensures { result ≡ exchanged_grid_answer answer }
-{
-    match answer {
-        GridAnswer::Found(p) => GridAnswer::Found(pair(p)),
-        GridAnswer::Refused(n) => GridAnswer::Refused(n),
+    // A pair by these axes.
+    pub(crate) fn pair(self, p: GridPair) -> GridPair
+        ensures { result ≡ pair_by self p }
+    {
+        match self {
+            Axes::Kept => p,
+            Axes::Exchanged => GridPair {
+                column: p.row,
+                row: p.column,
+            },
+        }
     }
 }

@@ -1,58 +1,47 @@
 // Offset coordinates of a flat grid. A column slants: its rows differ from the tiles' y by half of the column's number.
 
-ghost use Rattle.std.specs.Prelude.{◌≡◌};
+ghost use Rattle.std.specs.Prelude.{◌≡◌, true};
 ghost use Rattle.hexes.specs.Answers.{TileTells};
-ghost use Rattle.conversions.specs.Grid.{GridTells, known, to_grid, FromGrid};
-ghost use Rattle.conversions.specs.Leaves.{SlantIs};
+ghost use Rattle.hexes.specs.Tiles.{within_limit};
+ghost use Rattle.conversions.specs.Grid.{known, FromGrid};
+ghost use Rattle.conversions.specs.Leaves.{Chosen};
 ghost use Rattle.conversions.specs.Offset.{slant_of, offset_of};
 
-use crate::{GridAnswer, GridPair};
-use hexes::{Place, Tile, TileAnswer, refusals};
+use crate::GridPair;
+use hexes::{Place, Refusal, Tile};
 
-// How far a column slants, or that the mode is unknown.
-#[derive(Clone, Copy)]
-enum Slant {
-    By(i64),
-    Unknown,
-}
-
-// Half of z + p in mode Even and of z - p in mode Odd, with p 1 for an odd z, also a negative one, else 0. Both sums are even, so the halves are exact.
-fn slant_of(z: i32, mode: u32) -> Slant
-    ensures { SlantIs mode (slant_of mode z) result }
+// How far a column slants: half of z + p in mode Even and of z - p in mode Odd, with p 1 for an odd z, also a negative one, else 0. Both sums are even, so the halves are
+// exact.
+fn slant_of(z: i32, mode: u32) -> Result<i32, Refusal>
+    ensures { Chosen mode (slant_of mode z) result }
 {
     let wide = z as i64;
     let p = whole::wrapped(wide, 2) as i64;
+    // The mode is a number of the public calls, and is matched here alone.
     match mode {
-        0 => Slant::By(whole::half(wide + p)),
-        1 => Slant::By(whole::half(wide - p)),
-        _ => Slant::Unknown,
+        0 => Ok(whole::half(wide + p) as i32),
+        1 => Ok(whole::half(wide - p) as i32),
+        _ => Err(Refusal::UnknownNumber),
     }
 }
 
-pub(crate) fn to_flat(tile: Tile, mode: u32) -> GridAnswer
-    ensures { GridTells result (λ told. told ≡ to_grid tile (known mode) (offset_of mode 0 tile)) }
+pub(crate) fn to_flat(tile: Tile, mode: u32) -> Result<GridPair, Refusal>
+    requires { within_limit tile ≡ true }
+    ensures { Chosen mode (offset_of mode 0 tile) result }
 {
-    if !hexes::within_limit(tile) {
-        return GridAnswer::Refused(refusals::BEYOND_LIMIT);
-    }
-    let Slant::By(by) = slant_of(tile.x, mode) else {
-        return GridAnswer::Refused(refusals::UNKNOWN_NUMBER);
-    };
-    let row = tile.y as i64 + by;
-    GridAnswer::Found(GridPair {
+    let by = slant_of(tile.x, mode)?;
+    Ok(GridPair {
         column: tile.x,
-        row: row as i32,
+        row: tile.y + by,
     })
 }
 
-pub(crate) fn from_flat(pair: GridPair, mode: u32) -> TileAnswer
+pub(crate) fn from_flat(pair: GridPair, mode: u32) -> Result<Tile, Refusal>
     ensures { TileTells result (FromGrid (known mode) (offset_of mode 0) pair) }
 {
-    let Slant::By(by) = slant_of(pair.column, mode) else {
-        return TileAnswer::Refused(refusals::UNKNOWN_NUMBER);
-    };
-    hexes::judged(Place {
+    let by = slant_of(pair.column, mode)?;
+    Tile::try_from(Place {
         x: pair.column as i64,
-        y: pair.row as i64 - by,
+        y: whole::difference(pair.row, by),
     })
 }

@@ -6,7 +6,6 @@ pub mod Heaps
 pub mod Looking
 pub mod Closing
 pub mod Paving
-pub mod Writing
 pub mod Fillings
 pub mod Budgets
 pub mod RankFillings

@@ -2,73 +2,15 @@
 use Prim.Native.Nat.{ℕ, zero, suc, ◌+◌, ◌-◌, ◌*◌, ◌/◌, ◌<◌, ◌≤◌, min}
 use native.Mathlib.Omega.{arith}
 use native.Mathlib.Decide.{ℕ_discrete, dec_lt}
-use mathlib.Core.Path.{◌≡◌, sym, ap, subst, ◌∙◌}
-use mathlib.Core.Logic.{◌≢◌}
+use mathlib.Core.Path.{◌≡◌, sym, ap, ◌∙◌}
 use mathlib.Core.List.{List}
-use lib.ListN.{get_or, set, length, length-set, replicate, get_or-replicate, length-replicate}
-use lib.Seq.{get_or-set_same, get_or-set_other}
+use lib.ListN.{get_or, replicate, get_or-replicate, length-replicate}
 use Rattle.engine.specs.Leaves.{indices}
-use Rattle.engine.specs.Trees.{leaf, Node, Winners, Put}
+use Rattle.engine.specs.Trees.{leaf, Node, Winners}
 
 -- Each node is right but the parent of k.
 abbrev pub But : ℕ → List ℕ → ℕ → Type 0
 But a H k = (q : ℕ) → 1 ≤ q → q < a → (q ≡ k / 2 → ⊥) → Node H q
-
--- A store at p changes neither node q nor the two below it.
-away : (H : List ℕ) (p q w : ℕ) → q ≢ p → 2 * q ≢ p → 2 * q + 1 ≢ p → Node H q → Node (set H p w) q
-away H p q w h₀ h₁ h₂ n =
-    get_or-set_other H p q w 0 h₀ ∙ n ∙ sym (λ i. min (get_or-set_other H p (2 * q) w 0 h₁ i) (get_or-set_other H p (2 * q + 1) w 0 h₂ i))
-
--- The leaf itself is stored.
-pub but_leaf : (a i v : ℕ) (H : List ℕ) → Winners a H → But a (set H (a + i) v) (a + i)
-but_leaf a i v H w q h₁ h₂ h₃ = away H (a + i) q v (λ e. omega (arith, e, h₂)) (λ e. h₃ (omega (arith, e))) (λ e. h₃ (omega (arith, e))) (w.won q h₁ h₂)
-
--- The parent of k is stored anew: now its own parent may be wrong.
-module _ (a k w : ℕ) (H : List ℕ) (inside : k / 2 < length H) (all : But a H k) (is : w ≡ min (get_or H (2 * (k / 2)) 0) (get_or H (2 * (k / 2) + 1) 0)) where
-  itself : (q : ℕ) → 1 ≤ q → q ≡ k / 2 → Node (set H (k / 2) w) q
-  itself q h₁ e =
-      subst (λ (m : ℕ). Node (set H (k / 2) w) m) (sym e)
-      (get_or-set_same H (k / 2) w 0 inside ∙ is ∙ sym (λ i. min (get_or-set_other H (k / 2) (2 * (k / 2)) w 0 (λ f. omega (arith, e, f, h₁)) i) (get_or-set_other H (k / 2) (2 * (k / 2) + 1) w 0 (λ f. omega (arith, e, f, h₁)) i)))
-
-  pub but_parent : But a (set H (k / 2) w) (k / 2)
-  but_parent q h₁ h₂ h₃ = go (ℕ_discrete q (k / 2))
-    where
-      go : Dec (q ≡ k / 2) → Node (set H (k / 2) w) q
-      go (yes e) = itself q h₁ e
-      go (no n) = away H (k / 2) q w n (λ e. h₃ (omega (arith, e))) (λ e. h₃ (omega (arith, e))) (all q h₁ h₂ n)
-
--- The node beside k is 4p + 1 - k, where p is the parent of both.
-pub beside_k : (k : ℕ) (H : List ℕ) → 1 ≤ k → min (get_or H k 0) (get_or H (4 * (k / 2) + 1 - k) 0) ≡ min (get_or H (2 * (k / 2)) 0) (get_or H (2 * (k / 2) + 1) 0)
-beside_k k H h = go (ℕ_discrete k (2 * (k / 2)))
-  where
-    go : Dec (k ≡ 2 * (k / 2)) → min (get_or H k 0) (get_or H (4 * (k / 2) + 1 - k) 0) ≡ min (get_or H (2 * (k / 2)) 0) (get_or H (2 * (k / 2) + 1) 0)
-    go (yes e) =
-        let f : 4 * (k / 2) + 1 - k ≡ 2 * (k / 2) + 1 = omega (arith, e) in
-        omega (arith, ap (λ (m : ℕ). get_or H m 0) e, ap (λ (m : ℕ). get_or H m 0) f)
-    go (no n) =
-        let e : k ≡ 2 * (k / 2) + 1 = omega (arith, n) in
-        let f : 4 * (k / 2) + 1 - k ≡ 2 * (k / 2) = omega (arith, e) in
-        omega (arith, ap (λ (m : ℕ). get_or H m 0) e, ap (λ (m : ℕ). get_or H m 0) f)
-
--- The parent of k is right after all.
-pub but_none : (a k : ℕ) (H : List ℕ) → But a H k → Node H (k / 2) → (q : ℕ) → 1 ≤ q → q < a → Node H q
-but_none a k H all n q h₁ h₂ = go (ℕ_discrete q (k / 2))
-  where
-    go : Dec (q ≡ k / 2) → Node H q
-    go (yes e) = subst (λ (m : ℕ). Node H m) (sym e) n
-    go (no e) = all q h₁ h₂ e
-
--- All nodes are right again, and the leaves are as they were after the store.
-pub put_when : (a i v : ℕ) (H H' : List ℕ) → Winners a H → i < a → length H' ≡ length (set H (a + i) v)
-    → ((j : ℕ) → leaf a H' j ≡ leaf a (set H (a + i) v) j) → ((q : ℕ) → 1 ≤ q → q < a → Node H' q) → Put a i v H H'
-put_when a i v H H' w h size leaves nodes =
-    let length_is : length H' ≡ length H = size ∙ length-set H (a + i) v in
-    record {
-      size = length_is;
-      winners = record { some = w.some; few = w.few; room = omega (arith, w.room, length_is); won = nodes };
-      own = leaves i ∙ get_or-set_same H (a + i) v 0 (omega (arith, w.room, h));
-      others = λ j n. leaves j ∙ get_or-set_other H (a + i) (a + j) v 0 (λ e. n (omega (arith, e)));
-    }
 
 -- The root is the smallest leaf.
 module _ (a : ℕ) (H : List ℕ) (w : Winners a H) where

@@ -2,7 +2,7 @@
 use mathlib.Core.Path.{◌≡◌, refl, sym, ap, ◌∙◌}
 use mathlib.Core.Bool.{cond}
 use mathlib.Core.List.{List}
-use Prim.Native.Nat.{ℕ, ◌+◌, ◌*◌, ◌<◌}
+use Prim.Native.Nat.{ℕ, ◌+◌, ◌*◌, ◌≤◌, ◌<◌}
 use native.Mathlib.Omega.{arith}
 use lib.Dec.{ltb}
 use lib.ListN.{length, get_or}
@@ -13,12 +13,12 @@ use Rattle.hexes.specs.Limits.{barred}
 use Rattle.storage.specs.Leaves.{near_in}
 use Rattle.storage.specs.Maps.{area_of}
 use Rattle.storage.specs.declared.Map.{Map}
-use Rattle.storage.proofs.Maps.{fine}
+use Rattle.storage.proofs.Maps.{fine, area_small}
 use Rattle.storage.proofs.Near.{near_back}
 use Rattle.terrain.specs.GroundOfMap.{ground_of}
 use Rattle.terrain.specs.LandOfMap.{price_of, against, land_of}
 use Rattle.terrain.proofs.Walks.{against_twice}
-use Rattle.engine.specs.Leaves.{no_total}
+use Rattle.engine.specs.Leaves.{no_total, largest_area}
 use Rattle.engine.specs.Settling.{Leads}
 use Rattle.engine.specs.Steps.{effort_at, weight_by, to_of, cost_of}
 use Rattle.engine.specs.Turns.{OfMap, Paved}
@@ -30,6 +30,10 @@ abbrev pub rank_land : Map → List ℕ → Land
 rank_land map E = remarked (turned (ground_of map E) multiplier) no_total
 
 module _ (map : Map) (E : List ℕ) (of : OfMap map E) where
+  -- The tiles of the map are at most as many as the largest map has.
+  pub few : length E ≤ largest_area
+  few = omega (arith, of.size, area_small map.radius (fine map of.fine).small)
+
   -- A step by the opposite direction, and one by the direction itself, lead back.
   there_back : (t d : ℕ) → t < area_of map.radius → d < 6 → near_in map t (against d) < area_of map.radius → near_in map (near_in map t (against d)) d ≡ t
   there_back t d h l below =

@@ -13,12 +13,15 @@ use Rattle.terrain.specs.LandOfMap.{land_of}
 unfoldable pub fits : Map → ℕ → ℕ → ℕ → Bool
 fits map i efforts table = ltb i (tiles_of map) && lengths_fit map efforts table
 
+-- A table that fits is filled, keeps its length, and then holds what it should; one that does not is unchanged.
+pub record Fills (fit : Bool) (Holds : List ℕ → Type 0) (before after : List ℕ) : Type 0 where
+  pub filled : fit ≡ true → (length after ≡ length before) × Holds after
+  pub left : fit ≡ false → after ≡ before
+
 -- The table of totals is right over the land of the map, or unchanged.
-pub record FillsTotals (map : Map) (efforts : List ℕ) (start budget : ℕ) (before after : List ℕ) : Type 0 where
-  pub filled : fits map start (length efforts) (length before) ≡ true → (length after ≡ length before) × Right (land_of map efforts no_way) (at after) start budget
-  pub left : fits map start (length efforts) (length before) ≡ false → after ≡ before
+abbrev pub FillsTotals : Map → List ℕ → ℕ → ℕ → List ℕ → List ℕ → Type 0
+FillsTotals map efforts start budget before = Fills (fits map start (length efforts) (length before)) (λ table. Right (land_of map efforts no_way) (at table) start budget) before
 
 -- The table of ranks holds the rank of every tile over the ground of the map, or is unchanged. (For a barred end no tile has a route, so each entry is the mark for that.)
-pub record FillsRanks (map : Map) (efforts : List ℕ) (end : ℕ) (before after : List ℕ) : Type 0 where
-  pub filled : fits map end (length efforts) (length before) ≡ true → (length after ≡ length before) × Ranks (ground_of map efforts) end (at after)
-  pub left : fits map end (length efforts) (length before) ≡ false → after ≡ before
+abbrev pub FillsRanks : Map → List ℕ → ℕ → List ℕ → List ℕ → Type 0
+FillsRanks map efforts end before = Fills (fits map end (length efforts) (length before)) (λ table. Ranks (ground_of map efforts) end (at table)) before

@@ -1,11 +1,12 @@
 -- Where a step leads and what it costs, in the two lands whose least sums the engine tells: the land of the map for totals, and its ground turned round for ranks.
-use Rattle.std.specs.Prelude.{◌≡◌, cond, List, ℕ, ◌+◌, ◌*◌, ◌≤◌, ◌<◌, ltb, length, get_or}
+use Rattle.std.specs.Prelude.{◌≡◌, cond, List, ℕ, ◌+◌, ◌*◌, ◌<◌, ltb, get_or, Option}
 use Rattle.routes.specs.Ranks.{multiplier}
 use Rattle.hexes.specs.Limits.{barred}
 use Rattle.storage.specs.Leaves.{near_in}
+use Rattle.storage.specs.declared.Index.{Index}
 use Rattle.storage.specs.declared.Map.{Map}
 use Rattle.terrain.specs.LandOfMap.{price_of, against}
-use Rattle.engine.specs.Leaves.{largest_total}
+use Rattle.engine.specs.Settling.{step_of, Small}
 use Rattle.engine.specs.declared.steps.Table.{Table}
 
 -- The effort of tile t, by the efforts E. Where there is no such tile, nobody may enter.
@@ -30,8 +31,7 @@ to_of Table.Ranks map u d = near_in map u (against d)
 abbrev pub cost_of : Table → Map → List ℕ → ℕ → ℕ → ℕ
 cost_of table map E u d = cost_by table (get_or E u 0) (effort_at E (to_of table map u d))
 
--- The first k of six costs are laid.
-pub record Laid (cost : ℕ → ℕ) (k : ℕ) (costs : List ℕ) : Type 0 where
-  pub six : length costs ≡ 6
-  pub each : (d : ℕ) → d < k → get_or costs d 0 ≡ cost d
-  pub small : (d : ℕ) → d < k → get_or costs d 0 ≤ largest_total
+-- The steps by direction: step d leads to the tile `to d` at the cost `cost d`.
+pub record Steps (to cost : ℕ → ℕ) (steps : List (Option Index × ℕ)) : Type 0 where
+  pub each : (d : ℕ) → d < 6 → step_of steps d ≡ (to d, cost d)
+  pub small : Small steps

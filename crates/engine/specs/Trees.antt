@@ -1,6 +1,6 @@
 -- A winner tree over a tiles, as a list H: node q, from 1 to a - 1, has the nodes 2q and 2q + 1 below it, and the leaf of tile i stands at a + i.
-use Rattle.std.specs.Prelude.{◌≡◌, List, ℕ, ◌+◌, ◌*◌, ◌%◌, ◌≤◌, ◌<◌, min, length, get_or, replicate}
-use Rattle.engine.specs.Leaves.{indices, shut, room, unreached}
+use Rattle.std.specs.Prelude.{◌≡◌, List, ℕ, ◌+◌, ◌*◌, ◌%◌, ◌≤◌, ◌<◌, min, length, get_or}
+use Rattle.engine.specs.Leaves.{indices, shut}
 
 abbrev pub leaf : ℕ → List ℕ → ℕ → ℕ
 leaf a H i = get_or H (a + i) 0
@@ -26,7 +26,3 @@ pub record Put (a i v : ℕ) (H H' : List ℕ) : Type 0 where
 pub record Heap (a : ℕ) (H : List ℕ) : Type 0 where
   pub winners : Winners a H
   pub keyed : (i : ℕ) → i < a → leaf a H i < shut → leaf a H i % indices ≡ i
-
--- The tree in which no tile has been reached.
-unfoldable pub blank : List ℕ
-blank = replicate room unreached

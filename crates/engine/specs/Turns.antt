@@ -6,7 +6,7 @@ use Rattle.paths.specs.Engines.{Going}
 use Rattle.storage.specs.Maps.{map_refusal, area_of}
 use Rattle.storage.specs.declared.Map.{Map}
 use Rattle.engine.specs.Leaves.{no_total}
-use Rattle.engine.specs.Trees.{Heap}
+use Rattle.engine.specs.declared.trees.Tree.{Tree}
 use Rattle.engine.specs.Settling.{totals, live, work, Leads, Goes}
 
 -- The map is fine, and the efforts E have an entry for each of its tiles.
@@ -21,16 +21,16 @@ pub record Paved (G : Land) (a : ℕ) (to cost : ℕ → ℕ → ℕ) : Type 0 w
   pub leads : (u d : ℕ) → u < a → d < 6 → Leads G u d (to u d) (cost u d)
 
 -- One tile more is settled.
-pub record Turned (to cost : ℕ → ℕ → ℕ) (a b : ℕ) (H H' : List ℕ) : Type 0 where
-  pub heap : Heap a H'
-  pub size : length H' ≡ length H
-  pub falls : work a H' < work a H
-  pub goes : (G : Land) → Paved G a to cost → Goes G b a H H' (live a H) (live a H')
+pub record Turned (to cost : ℕ → ℕ → ℕ) (b : ℕ) (T T' : Tree) : Type 0 where
+  pub tiles : T'.tiles ≡ T.tiles
+  pub falls : work T' < work T
+  pub goes : (G : Land) → Paved G T.tiles to cost → Goes G b T T' (live T) (live T')
 
 -- All tiles are settled: what was right on the way is right.
-abbrev pub Finished : (ℕ → ℕ → ℕ) → (ℕ → ℕ → ℕ) → ℕ → ℕ → List ℕ → List ℕ → Type 0
-Finished to cost a b H H' = (G : Land) (s : ℕ) → Paved G a to cost → Going G (totals a H) s b (live a H) → Right G (totals a H') s b
+pub record Finished (to cost : ℕ → ℕ → ℕ) (b : ℕ) (T T' : Tree) : Type 0 where
+  pub tiles : T'.tiles ≡ T.tiles
+  pub right : (G : Land) (s : ℕ) → Paved G T.tiles to cost → Going G (totals T) s b (live T) → Right G (totals T') s b
 
--- The leaves of H tell the least sums from s within the budget.
-abbrev pub Settles : (ℕ → ℕ → ℕ) → (ℕ → ℕ → ℕ) → ℕ → ℕ → ℕ → List ℕ → Type 0
-Settles to cost a b s H = (G : Land) → Paved G a to cost → Right G (totals a H) s b
+-- The leaves tell the least sums from s within the budget, over a tiles.
+abbrev pub Settles : (ℕ → ℕ → ℕ) → (ℕ → ℕ → ℕ) → ℕ → ℕ → ℕ → Tree → Type 0
+Settles to cost a b s T = (G : Land) → Paved G a to cost → Right G (totals T) s b

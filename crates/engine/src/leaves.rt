@@ -1,4 +1,5 @@
 // A tile's leaf tells the tile's total and whether the tile is open, that is, still to be settled. `specs/Leaves` names the same numbers for the promises.
+// It is one number and no enum, so that a tree that fits its memory holds nothing else, and the order of numbers is all that the tree compares.
 
 ghost use Rattle.std.specs.Prelude.{◌≡◌, ◌%◌, ◌<◌, ◌≤◌};
 ghost use Rattle.engine.specs.Leaves.{indices, no_total, largest_total, total_of, open_leaf, closed_leaf};
@@ -20,13 +21,11 @@ pub(crate) const LARGEST_TOTAL: u64 = SHUT / INDICES - 1;
 // The leaf of a tile to which no way has been found.
 pub(crate) const UNREACHED: u64 = SHUT + NO_TOTAL;
 
-// The largest radius of a map.
-const RADIUS: usize = limits::RADIUS as usize;
-
 // A tree over the largest map has twice as many nodes as that map has tiles.
-pub(crate) const ROOM: usize = 2 * (3 * RADIUS * (RADIUS + 1) + 1);
+pub(crate) const ROOM: usize = 2 * limits::AREA;
 
 // The total of the tile.
+#[tactic(auto, unfolding(crate::specs::Leaves::total_of))]
 pub(crate) fn total_of(leaf: u64) -> u64
     ensures { result ≡ total_of leaf }
 {

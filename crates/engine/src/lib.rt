@@ -6,14 +6,17 @@ ghost use Rattle.engine.specs.Filling.{FillsTotals, FillsRanks};
 
 mod costs;
 mod filling;
+mod land;
 mod leaves;
 mod settling;
 mod steps;
+mod trees;
 mod turns;
-mod winners;
 
-use crate::leaves::{ROOM, UNREACHED};
+use crate::land::Land;
+use crate::leaves::LARGEST_TOTAL;
 use crate::steps::Table;
+use hexes::limits;
 use storage::{Index, Map};
 
 // Fills a table with the least sums from a start within a budget, by dense index. It is left as it is if the map is not fine, or the start or the length of a table is not the map's.
@@ -21,10 +24,13 @@ pub fn fill_totals(map: Map, efforts: &[u16], start: Index, budget: u32, totals:
     ensures { FillsTotals map efforts.now start.0 budget totals.old totals.new }
 {
     if filling::fit(map, start, efforts.len(), totals.len()) {
-        let s = start.0 as usize;
-        let mut tree = [UNREACHED; ROOM];
-        turns::settle(&mut tree, Table::Totals, map, efforts, s, budget as u64);
-        filling::write_totals(&tree, totals);
+        let land = Land {
+            table: Table::Totals,
+            map,
+            efforts,
+            budget: budget as u64,
+        };
+        filling::fill(&land, start.0 as usize, totals);
     }
 }
 
@@ -33,8 +39,18 @@ pub fn fill_ranks(map: Map, efforts: &[u16], end: Index, ranks: &mut [u64])
     ensures { FillsRanks map efforts.now end.0 ranks.old ranks.new }
 {
     if filling::fit(map, end, efforts.len(), ranks.len()) {
-        let mut tree = [UNREACHED; ROOM];
-        turns::settle_ranks(&mut tree, map, efforts, end.0 as usize);
-        filling::write_ranks(&tree, ranks);
+        let e = end.0 as usize;
+        if efforts[e] < limits::BARRED {
+            let land = Land {
+                table: Table::Ranks,
+                map,
+                efforts,
+                budget: LARGEST_TOTAL,
+            };
+            filling::fill(&land, e, ranks);
+        } else {
+            // No tile has a route to a barred end.
+            ranks.fill(limits::NO_RANK);
+        }
     }
 }

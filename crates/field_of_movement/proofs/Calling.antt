@@ -1,15 +1,15 @@
--- The ways in which the two calls end: refused, or accepted with what the engine or the scan has told.
+-- How the two calls end that are accepted: with what the engine or the scan has told.
 use mathlib.Core.Path.{◌≡◌, refl, sym, ap, ◌∙◌, subst}
 use mathlib.Core.List.{List}
 use Prim.Native.Nat.{ℕ, ◌≤◌, ◌<◌}
 use native.Mathlib.Omega.{arith}
 use lib.ListN.{length}
 use Rattle.paths.specs.Tables.{at, Right}
-use Rattle.hexes.specs.Answers.{Told, accepted, refused}
+use Rattle.hexes.specs.Answers.{Told, accepted}
 use Rattle.hexes.specs.Limits.{no_way}
 use Rattle.hexes.specs.Refusals.{not_right}
 use Rattle.hexes.specs.declared.Tile.{Tile}
-use Rattle.storage.specs.Hexmod.{index, index_in}
+use Rattle.storage.specs.Hexmod.{index_in}
 use Rattle.storage.specs.Maps.{area_of}
 use Rattle.storage.specs.declared.Index.{Index}
 use Rattle.storage.specs.declared.Map.{Map}
@@ -27,17 +27,6 @@ use Rattle.field_of_movement.specs.Calls.{Ranges, Checks}
 use Rattle.field_of_movement.specs.Scanning.{Scans}
 
 module _ (map : Map) (efforts : List ℕ) (start : Tile) (budget : ℕ) (table : List ℕ) where
-  -- Refused, with the number that is told.
-  module _ (n : ℕ) (h : 0 < n) (e : refused (index 0) n ≡ judged_start map start (length efforts) (length table)) where
-    pub refusal_is : n ≡ call_refusal map start (length efforts) (length table)
-    refusal_is = ap (λ (told : Told Index). told.number) e
-
-    pub ranges_refused : Ranges map efforts start budget table table n
-    ranges_refused = record { refused = λ l. (refusal_is, refl); accepted = λ z. absurd (omega (arith, refusal_is)) }
-
-    pub checks_refused : Checks map efforts start budget table n 0
-    checks_refused = record { refused = λ l. (refusal_is, refl); accepted = λ z. absurd (omega (arith, refusal_is)) }
-
   -- Accepted, with the index of the start.
   module _ (i : Index) (e : accepted i ≡ judged_start map start (length efforts) (length table)) where
     none : call_refusal map start (length efforts) (length table) ≡ 0

@@ -2,53 +2,52 @@
 
 #![tactic(auto)]
 
-ghost use Rattle.field_of_movement.specs.Calls.{Ranges, Checks};
+ghost use Rattle.hexes.specs.Answers.{number_told};
+ghost use Rattle.field_of_movement.specs.Calls.{Ranges, Checks, verdict_number, verdict_index};
 
+mod fault;
 mod rule;
-mod scan;
 
-use hexes::{Tile, refusals};
-use storage::{Index, IndexAnswer, Map};
+pub use fault::Fault;
+use hexes::{Refusal, Tile};
+use rule::Check;
+use storage::{Index, Map};
 
-// What the totals check answers: 0, or a refusal number, or 9 and the lowest dense index at which the neighbour rule is broken. With every other number the index is 0.
-#[derive(Clone, Copy)]
-pub struct Verdict {
-    pub number: u32,
-    pub broken: Index,
-}
-
-// The riding range: the least sum of effort + 1 to each tile within the budget, by dense index, written to `totals`. It answers 0, or the number of a refusal, with `totals` unchanged.
-pub fn riding_range(map: Map, efforts: &[u16], start: Tile, budget: u32, totals: &mut [u32]) -> u32
-    ensures { Ranges map efforts.now start budget totals.old totals.new result }
+// The riding range: the least sum of effort + 1 to each tile within the budget, by dense index, written to `totals`. Refused, it leaves `totals` as they are.
+pub fn riding_range(
+    map: Map,
+    efforts: &[u16],
+    start: Tile,
+    budget: u32,
+    totals: &mut [u32],
+) -> Result<(), Refusal>
+    ensures { Ranges map efforts.now start budget totals.old totals.new (number_told result) }
 {
-    let judged = terrain::judge(map, start, efforts.len(), totals.len());
-    let IndexAnswer::Found(index) = judged else {
-        return storage::refusal_number(judged);
-    };
+    let index = terrain::judge(map, start, efforts.len(), totals.len())?;
     engine::fill_totals(map, efforts, index, budget, totals);
-    0
+    Ok(())
 }
 
 // The totals check: is each entry of a table from anybody the least sum, or the mark?
-pub fn check_totals(map: Map, efforts: &[u16], start: Tile, budget: u32, totals: &[u32]) -> Verdict
-    ensures { Checks map efforts.now start budget totals.now result.number result.broken.0 }
+pub fn check_totals(
+    map: Map,
+    efforts: &[u16],
+    start: Tile,
+    budget: u32,
+    totals: &[u32],
+) -> Result<(), Fault>
+    ensures { Checks map efforts.now start budget totals.now (verdict_number result) (verdict_index result) }
 {
-    let judged = terrain::judge(map, start, efforts.len(), totals.len());
-    let IndexAnswer::Found(index) = judged else {
-        return Verdict {
-            number: storage::refusal_number(judged),
-            broken: Index(0),
-        };
+    let index = terrain::judge(map, start, efforts.len(), totals.len())?;
+    let check = Check {
+        map,
+        efforts,
+        start: index.0 as usize,
+        budget,
+        totals,
     };
-    let lowest = scan::lowest_broken(map, efforts, index.0 as usize, budget, totals);
-    if lowest < totals.len() {
-        return Verdict {
-            number: refusals::NOT_RIGHT,
-            broken: Index(lowest as u32),
-        };
-    }
-    Verdict {
-        number: 0,
-        broken: Index(0),
+    match check.lowest_broken() {
+        Some(lowest) => Err(Fault::NotRight(Index(lowest as u32))),
+        None => Ok(()),
     }
 }

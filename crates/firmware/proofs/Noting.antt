@@ -1,29 +1,18 @@
--- When a broken index is noted, and when the run is left as it is.
+-- When no broken index is noted: no refusal has the number of a table that is not right.
 use mathlib.Core.Path.{◌≡◌, refl}
-use mathlib.Core.Bool.{Bool, true, false, cond}
-use mathlib.Core.List.{List, [], ◌∷◌}
+use mathlib.Core.List.{List}
 use Prim.Native.Nat.{ℕ}
-use native.Mathlib.Omega.{arith}
-use lib.Dec.{eqb}
-use lib.ListN.{length, set}
-use borrow.Author.Tests.{eq-eqb, ne_eqb}
-use Rattle.hexes.specs.Refusals.{not_right}
+use Rattle.hexes.specs.Refusals.{number_of}
+use Rattle.hexes.specs.declared.refusal.Refusal.{Refusal}
 use Rattle.firmware.specs.Calls.{noted}
 
-module _ (number index : ℕ) (run : List ℕ) where
-  pub noted_broken : number ≡ not_right → set run 0 index ≡ noted number index run
-  unfolding noted
-  noted_broken e = rw (eq-eqb number not_right e)
-
-  pub noted_other : (number ≡ not_right → ⊥) → run ≡ noted number index run
-  unfolding noted
-  noted_other h = rw (ne_eqb number not_right h)
-
-nothing_set : (test : Bool) (index : ℕ) (run : List ℕ) → length run ≡ 0 → run ≡ cond test (set run 0 index) run
-nothing_set true index [] e = refl
-nothing_set true index (x ∷ run) e = absurd (omega (arith, e))
-nothing_set false index run e = refl
-
-pub noted_nowhere : (number index : ℕ) (run : List ℕ) → length run ≡ 0 → run ≡ noted number index run
+pub noted_refused : (e : Refusal) (index : ℕ) (run : List ℕ) → run ≡ noted (number_of e) index run
 unfolding noted
-noted_nowhere number index run = nothing_set (eqb number not_right) index run
+noted_refused Refusal.BeyondLimit index run = refl
+noted_refused Refusal.TooLarge index run = refl
+noted_refused Refusal.UnknownNumber index run = refl
+noted_refused Refusal.OddPair index run = refl
+noted_refused Refusal.NotOfMap index run = refl
+noted_refused Refusal.WrongLength index run = refl
+noted_refused Refusal.RunTooShort index run = refl
+noted_refused Refusal.NoOpenPath index run = refl

@@ -29,7 +29,7 @@ use Rattle.storage.proofs.Rows.{one_row_column}
 use Rattle.terrain.proofs.Totals.{Efforts}
 use Rattle.field_of_movement.proofs.Unique.{riding_range_unique, check_totals_unique}
 use Rattle.pathfinding.proofs.Unique.{route_unique}
-use Rattle.firmware.specs.Calls.{minus, noted, tiles_told, RangeCall, CheckCall, RouteCall}
+use Rattle.firmware.specs.Calls.{minus, noted, answer_told, RangeCall, CheckCall, RouteCall}
 use Rattle.firmware.specs.Lists.{ListCall}
 use Rattle.firmware.specs.Numbers.{index_answered}
 use Rattle.firmware.specs.Pairs.{of_tile, of_grid, of_row_column, PairCall}
@@ -107,4 +107,4 @@ kyrla_check_unique map efforts start budget totals before after after' r r' p q 
 pub kyrla_route_unique : (map : Map) (efforts : List ℕ) (start end : Tile) (before after after' : List ℕ) (entry exit exit' : List ℤ) (r r' : ℤ) → Efforts efforts → RouteCall map efforts start end before after entry exit r → RouteCall map efforts start end before after' entry exit' r' → ((r ≡ r') × (exit ≡ exit')) × (after ≡ after')
 kyrla_route_unique map efforts start end before after after' entry exit exit' r r' short p q =
     let one = route_unique map efforts start end before entry p.list q.list after after' exit exit' short p.routes q.routes in
-    ((p.answers ∙ ap tiles_told one.0.0 ∙ sym q.answers, one.0.1), one.1)
+    ((p.answers ∙ ap answer_told one.0.0 ∙ sym q.answers, one.0.1), one.1)

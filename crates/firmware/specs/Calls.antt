@@ -1,21 +1,21 @@
 -- What the calls for C promise: what the calls of the field of movement and the route promise, over a map and tiles given by their numbers, with an answer that is the result or minus the
 -- number of the refusal.
-use Rattle.std.specs.Prelude.{◌≡◌, cond, List, ℕ, eqb, ℤ, pos, ◌-ℤ◌, set}
-use Rattle.hexes.specs.Refusals.{not_right}
+use Rattle.std.specs.Prelude.{◌≡◌, cond, List, ℕ, eqb, ℤ, pos, ◌-ℤ◌, set, Ok, Err}
+use Rattle.hexes.specs.Answers.{Answer}
+use Rattle.hexes.specs.Refusals.{number_of, not_right}
 use Rattle.hexes.specs.Tiles.{tile}
 use Rattle.hexes.specs.declared.Tile.{Tile}
 use Rattle.storage.specs.declared.Map.{Map}
 use Rattle.field_of_movement.specs.Calls.{Ranges, Checks}
 use Rattle.pathfinding.specs.Calls.{Routes}
-use Rattle.runs.specs.declared.ListAnswer.{ListAnswer}
 
 abbrev pub minus : ℕ → ℤ
 minus n = pos 0 -ℤ pos n
 
--- The answer of a call that lists: the number of tiles, or minus the number of the refusal.
-abbrev pub tiles_told : ListAnswer → ℤ
-tiles_told (ListAnswer.Listed tiles) = pos tiles
-tiles_told (ListAnswer.Refused number) = minus number
+-- What a call that answers a number has found, as C is told it: that number, or minus the number of the refusal.
+abbrev pub answer_told : Answer ℕ → ℤ
+answer_told (Ok n) = pos n
+answer_told (Err e) = minus (number_of e)
 
 -- The map of a centre and a radius.
 abbrev pub map_at : ℤ → ℤ → ℕ → Map
@@ -41,6 +41,6 @@ pub record CheckCall (map : Map) (efforts : List ℕ) (start : Tile) (budget : �
 
 -- The route answers its number of tiles or minus its number, `before` becomes `after` in the rank table, and `entry` becomes `exit` in the run.
 pub record RouteCall (map : Map) (efforts : List ℕ) (start end : Tile) (before after : List ℕ) (entry exit : List ℤ) (answer : ℤ) : Type 0 where
-  pub list : ListAnswer
-  pub answers : answer ≡ tiles_told list
+  pub list : Answer ℕ
+  pub answers : answer ≡ answer_told list
   pub routes : Routes map efforts start end before entry list after exit

@@ -2,7 +2,6 @@
 use Rattle.std.specs.Prelude.{ℕ, zero, suc, ℤ, pos}
 use Rattle.hexes.specs.declared.Tile.{Tile}
 use Rattle.storage.specs.Hexmod.{to_hexmod}
-use Rattle.storage.specs.declared.IndexAnswer.{IndexAnswer}
 use Rattle.storage.specs.declared.Map.{Map}
 use Rattle.firmware.specs.Calls.{minus}
 
@@ -14,8 +13,3 @@ answered (suc number) value = minus (suc number)
 -- The answer of a call that gives the index of a tile.
 abbrev pub index_answered : Map → Tile → ℤ
 index_answered map t = answered (to_hexmod map t).number (to_hexmod map t).value.0
-
--- The answer for what the call below has found. The contract of a private function cites it; no promise of a call does.
-abbrev pub index_told : IndexAnswer → ℤ
-index_told (IndexAnswer.Found i) = pos i.0
-index_told (IndexAnswer.Refused number) = minus number

@@ -1,12 +1,12 @@
 -- What the calls for C that write a pair promise: what the calls below tell, with the pair laid in the lent run as a list of one tile is.
-use Rattle.std.specs.Prelude.{List, [], ◌∷◌, ℕ, ◌<◌, ◌^◌, ℤ, pos}
-use Rattle.hexes.specs.Answers.{Told, Answer, found, refusal, accepted, refused}
+use Rattle.std.specs.Prelude.{List, [], ◌∷◌, ◌<◌, ◌^◌, ℤ, pos, Ok, Err}
+use Rattle.hexes.specs.Answers.{Told, Answer, accepted, refused}
+use Rattle.hexes.specs.Refusals.{number_of}
 use Rattle.hexes.specs.Tiles.{tile}
 use Rattle.hexes.specs.declared.Tile.{Tile}
 use Rattle.storage.specs.declared.RowColumn.{RowColumn}
 use Rattle.conversions.specs.declared.GridPair.{GridPair}
 use Rattle.firmware.specs.Lists.{ListCall}
-use Rattle.firmware.specs.declared.pairs.PairTold.{PairTold}
 
 -- The two entries of a pair, named as those of a tile are: of a tile its own, of a pair of a grid the column and the row, of a row and column the row first.
 abbrev pub of_tile : Tile → Tile
@@ -24,17 +24,11 @@ pub record PairCall {A : Type 0} (rule : Told A → Type 0) (laid : A → Tile) 
   pub tells : rule told
   pub lists : ListCall told.number (laid told.value ∷ []) before after answer
 
--- The contracts of private functions cite what follows; no promise of a call does. What an answer tells, a pair by its two entries, and the pair that is told.
+-- The contracts of private functions cite what follows; no promise of a call does. What an answer tells, and a row and a column that signed 32-bit entries hold, as they do those of
+-- every map.
 abbrev pub told_by : {A : Type 0} → A → Answer A → Told A
-told_by zeros (found a) = accepted a
-told_by zeros (refusal n) = refused zeros n
+told_by zeros (Ok a) = accepted a
+told_by zeros (Err e) = refused zeros (number_of e)
 
-abbrev pub pair_of : ℕ → ℤ → ℤ → PairTold
-pair_of number first second = record { number = number; laid = tile first second }
-
-abbrev pub pair_told : {A : Type 0} → (A → Tile) → Told A → PairTold
-pair_told laid told = record { number = told.number; laid = laid told.value }
-
--- A row and a column that signed 32-bit entries hold, as they do those of every map.
 abbrev pub Signed : RowColumn → Type 0
 Signed p = (p.row < 2 ^ 31) × (p.column < 2 ^ 31)

@@ -7,19 +7,30 @@ mod lists;
 mod numbers;
 mod pairs;
 
-ghost use Rattle.std.specs.Prelude.{◌≡◌};
+ghost use Rattle.std.specs.Prelude.{◌≡◌, set};
 ghost use Rattle.hexes.specs.Tiles.{tile};
-ghost use Rattle.firmware.specs.Calls.{minus, map_at, noted, RangeCall, CheckCall, RouteCall};
+ghost use Rattle.field_of_movement.specs.Calls.{verdict_number, verdict_index};
+ghost use Rattle.firmware.specs.Calls.{minus, answer_told, map_at, noted, RangeCall, CheckCall, RouteCall};
 
-use field_of_movement::Verdict;
-use hexes::{Tile, refusals};
-use storage::Map;
+use field_of_movement::Fault;
+use hexes::{Refusal, Tile};
+use storage::{Index, Map};
 
-// A number as C is told it.
-fn told(number: u32) -> i64
+// Minus a number: how C is told a refusal.
+fn minus(number: u32) -> i64
     ensures { result ≡ minus number }
 {
     0 - number as i64
+}
+
+// What a call that answers a number has found, as C is told it.
+fn answer_told(answer: Result<u32, Refusal>) -> i64
+    ensures { result ≡ answer_told answer }
+{
+    match answer {
+        Ok(number) => number as i64,
+        Err(refusal) => minus(refusal.number()),
+    }
 }
 
 // The map of a centre and a radius.
@@ -32,26 +43,29 @@ fn map_at(cx: i32, cy: i32, radius: u32) -> Map
     }
 }
 
-// Writes down a broken index, where the number says that there is one and the run has an entry for it.
-fn note(broken: &mut [u32], number: u32, index: u32)
-    ensures { broken.new ≡ noted number index broken.old }
+// What the totals check has answered, as C is told it, with a broken index written to the run, where it has an entry.
+#[tactic(auto, using(crate::proofs::Noting::noted_refused), unfolding(crate::specs::Calls::noted))]
+fn verdict_told(verdict: Result<(), Fault>, broken: &mut [u32]) -> i64
+    ensures value { result ≡ minus (verdict_number verdict) }
+    ensures broken_after { broken.new ≡ noted (verdict_number verdict) (verdict_index verdict) broken.old }
 {
-    if number != refusals::NOT_RIGHT {
-        return;
+    match verdict {
+        Ok(()) => 0,
+        Err(Fault::Refused(refusal)) => minus(refusal.number()),
+        Err(Fault::NotRight(index)) => {
+            note(broken, index);
+            minus(9)
+        }
     }
-    if broken.len() == 0 {
-        return;
-    }
-    broken[0] = index;
 }
 
-// What the totals check has answered, as C is told it, with a broken index written down.
-fn verdict_told(verdict: Verdict, broken: &mut [u32]) -> i64
-    ensures value { result ≡ minus verdict.number }
-    ensures broken_after { broken.new ≡ noted verdict.number verdict.broken.0 broken.old }
+// Writes an index to the first entry of a run, where it has one.
+fn note(broken: &mut [u32], index: Index)
+    ensures { broken.new ≡ set broken.old 0 index.0 }
 {
-    note(broken, verdict.number, verdict.broken.0);
-    told(verdict.number)
+    if let Some(first) = broken.first_mut() {
+        *first = index.0;
+    }
 }
 
 // The riding range, written to `totals` by dense index.
@@ -70,7 +84,8 @@ pub extern "C" fn kyrla_range(
 {
     let map = map_at(cx, cy, radius);
     let start = Tile { x: sx, y: sy };
-    told(field_of_movement::riding_range(map, efforts, start, budget, totals))
+    let written = field_of_movement::riding_range(map, efforts, start, budget, totals);
+    answer_told(written.map(|()| 0))
 }
 
 // The totals check. With minus 9 the lowest broken index stands in the first entry of `broken`, where it has one; nothing else is ever written.
@@ -113,5 +128,5 @@ pub extern "C" fn kyrla_route(
     let map = map_at(cx, cy, radius);
     let start = Tile { x: sx, y: sy };
     let end = Tile { x: ex, y: ey };
-    lists::tiles_told(pathfinding::route(map, efforts, start, end, ranks, run))
+    answer_told(pathfinding::route(map, efforts, start, end, ranks, run))
 }

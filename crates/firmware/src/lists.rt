@@ -1,25 +1,13 @@
-// The calls for C that list tiles, x then y, in a lent run. Each answers the number of tiles; refused, it leaves the run as it is.
+// The calls for C that list tiles, x then y, in a lent run. Each answers the number of tiles; refused, it leaves the run as it is. They are alike and stand apart, since C knows each by its
+// name.
 
-ghost use Rattle.std.specs.Prelude.{◌≡◌};
 ghost use Rattle.hexes.specs.Tiles.{tile};
 ghost use Rattle.rings.specs.Judged.{refusal_of};
 ghost use Rattle.rings.specs.Rings.{ring, edge, spiral, wedge, corner_wedge};
-ghost use Rattle.firmware.specs.Calls.{tiles_told};
 ghost use Rattle.firmware.specs.Lists.{ListCall};
 
-use crate::told;
+use crate::answer_told;
 use hexes::{Direction, Tile};
-use runs::ListAnswer;
-
-// What a call that lists has answered, as C is told it.
-pub(crate) fn tiles_told(answer: ListAnswer) -> i64
-    ensures { result ≡ tiles_told answer }
-{
-    match answer {
-        ListAnswer::Listed(tiles) => tiles as i64,
-        ListAnswer::Refused(number) => told(number),
-    }
-}
 
 // The ring of a range round a centre, from a direction on.
 #[unsafe(no_mangle)]
@@ -34,7 +22,7 @@ pub extern "C" fn kyrla_ring(
     ensures { ListCall (refusal_of (tile cx cy) range range direction sense) (ring (tile cx cy) direction sense range) run.old run.new result }
 {
     let centre = Tile { x: cx, y: cy };
-    tiles_told(rings::ring(centre, range, Direction(direction), sense, run))
+    answer_told(rings::ring(centre, range, Direction(direction), sense, run))
 }
 
 // The edge of a range at a vertex.
@@ -50,7 +38,7 @@ pub extern "C" fn kyrla_ring_edge(
     ensures { ListCall (refusal_of (tile cx cy) range range vertex sense) (edge (tile cx cy) vertex sense range) run.old run.new result }
 {
     let centre = Tile { x: cx, y: cy };
-    tiles_told(rings::ring_edge(centre, range, vertex, sense, run))
+    answer_told(rings::ring_edge(centre, range, vertex, sense, run))
 }
 
 // The edges of ranges first to last at a vertex.
@@ -67,7 +55,7 @@ pub extern "C" fn kyrla_wedge(
     ensures { ListCall (refusal_of (tile cx cy) first last vertex sense) (wedge (tile cx cy) first last vertex sense) run.old run.new result }
 {
     let centre = Tile { x: cx, y: cy };
-    tiles_told(rings::wedge(centre, first, last, vertex, sense, run))
+    answer_told(rings::wedge(centre, first, last, vertex, sense, run))
 }
 
 // The corners of ranges first to last in a direction.
@@ -83,7 +71,7 @@ pub extern "C" fn kyrla_corner_wedge(
     ensures { ListCall (refusal_of (tile cx cy) first last direction 0) (corner_wedge (tile cx cy) first last direction) run.old run.new result }
 {
     let centre = Tile { x: cx, y: cy };
-    tiles_told(rings::corner_wedge(centre, first, last, Direction(direction), run))
+    answer_told(rings::corner_wedge(centre, first, last, Direction(direction), run))
 }
 
 // The rings of ranges first to last from a direction on.
@@ -100,5 +88,5 @@ pub extern "C" fn kyrla_spiral(
     ensures { ListCall (refusal_of (tile cx cy) first last direction sense) (spiral (tile cx cy) first last direction sense) run.old run.new result }
 {
     let centre = Tile { x: cx, y: cy };
-    tiles_told(rings::spiral(centre, first, last, Direction(direction), sense, run))
+    answer_told(rings::spiral(centre, first, last, Direction(direction), sense, run))
 }

@@ -4,11 +4,11 @@ ghost use Rattle.std.specs.Prelude.{◌≡◌, pos};
 ghost use Rattle.hexes.specs.Tiles.{tile, distance_of};
 ghost use Rattle.rings.specs.Counts.{ring_count, wedge_count};
 ghost use Rattle.firmware.specs.Calls.{map_at};
-ghost use Rattle.firmware.specs.Numbers.{index_told, index_answered};
+ghost use Rattle.firmware.specs.Numbers.{index_answered};
 
-use crate::{map_at, told};
+use crate::{answer_told, map_at};
 use hexes::Tile;
-use storage::IndexAnswer;
+use storage::Index;
 
 // The distance of any two tiles. It is never refused.
 #[unsafe(no_mangle)]
@@ -20,14 +20,11 @@ pub extern "C" fn kyrla_distance(ax: i32, ay: i32, bx: i32, by: i32) -> i64
     hexes::distance(a, b) as i64
 }
 
-// What a call that finds an index has answered, as C is told it.
-fn index_told(answer: IndexAnswer) -> i64
-    ensures { result ≡ index_told answer }
+// The number of an index.
+fn number(index: Index) -> u32
+    ensures { result ≡ index.0 }
 {
-    match answer {
-        IndexAnswer::Found(index) => index.0 as i64,
-        IndexAnswer::Refused(number) => told(number),
-    }
+    index.0
 }
 
 // The dense index of a tile of a map.
@@ -36,7 +33,8 @@ pub extern "C" fn kyrla_index(cx: i32, cy: i32, radius: u32, x: i32, y: i32) -> 
     ensures { result ≡ index_answered (map_at cx cy radius) (tile x y) }
 {
     let map = map_at(cx, cy, radius);
-    index_told(storage::to_hexmod_coordinates(map, Tile { x, y }))
+    let found = storage::to_hexmod_coordinates(map, Tile { x, y });
+    answer_told(found.map(number))
 }
 
 // How many tiles a ring has.

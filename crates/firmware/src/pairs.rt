@@ -1,85 +1,62 @@
-// The calls for C that write a pair of numbers to the first two entries of a lent run. Each answers 1; refused, it leaves the run as it is.
+// The calls for C that write a pair of numbers to the first two entries of a lent run. Each answers 1; refused, it leaves the run as it is. They are alike
+// and stand apart, since C knows each by its name.
 
 ghost use Rattle.std.specs.Prelude.{◌≡◌, [], ◌∷◌};
-ghost use Rattle.hexes.specs.Answers.{origin, tile_answer};
+ghost use Rattle.hexes.specs.Answers.{origin};
 ghost use Rattle.hexes.specs.Tiles.{tile};
-ghost use Rattle.storage.specs.Hexagonal.{row_column, row_column_answer, to_row_column, FromRowColumn};
+ghost use Rattle.storage.specs.Hexagonal.{row_column, to_row_column, FromRowColumn};
 ghost use Rattle.storage.specs.Hexmod.{index, FromHexmod};
-ghost use Rattle.conversions.specs.Grid.{pair, no_pair, grid_answer};
+ghost use Rattle.conversions.specs.Grid.{pair};
 ghost use Rattle.conversions.specs.Offset.{to_offset, FromOffset};
 ghost use Rattle.conversions.specs.Doubled.{to_doubled, FromDoubled};
 ghost use Rattle.firmware.specs.Calls.{map_at};
+ghost use Rattle.runs.specs.Runs.{Lists};
 ghost use Rattle.firmware.specs.Lists.{ListCall};
-ghost use Rattle.firmware.specs.Pairs.{of_tile, of_grid, of_row_column, told_by, pair_of, pair_told, Signed, PairCall};
+ghost use Rattle.firmware.specs.Pairs.{of_tile, of_grid, of_row_column, told_by, Signed, PairCall};
 
-use crate::{map_at, told};
-use conversions::{GridAnswer, GridPair};
-use hexes::{Tile, TileAnswer, refusals};
-use storage::{Index, RowColumn, RowColumnAnswer};
+use crate::{answer_told, map_at};
+use conversions::GridPair;
+use hexes::{Refusal, Tile};
+use storage::{Index, RowColumn};
 
-// A pair that a call tells, named as a tile's coordinates are. Where the arguments are refused, it is the number of the refusal and zeros; number 0 is no refusal.
-#[derive(Clone, Copy)]
-struct PairTold {
-    number: u32,
-    laid: Tile,
-}
-
-// A pair by its two entries, or a refusal with zeros.
-fn pair_of(number: u32, first: i32, second: i32) -> PairTold
-    ensures { result ≡ pair_of number first second }
+// The two entries of a pair of a grid, named as a tile's coordinates are: its column first.
+fn of_grid(pair: GridPair) -> Tile
+    ensures { result ≡ of_grid pair }
 {
-    PairTold {
-        number,
-        laid: Tile {
-            x: first,
-            y: second,
-        },
+    Tile {
+        x: pair.column,
+        y: pair.row,
     }
 }
 
-// The pair of a tile.
-fn of_tile(answer: TileAnswer) -> PairTold
-    ensures { result ≡ pair_told of_tile (told_by origin (tile_answer answer)) }
+// The two entries of a row and a column, the row first.
+fn of_row_column(at: RowColumn) -> Tile
+    requires { Signed at }
+    ensures { result ≡ of_row_column at }
 {
-    match answer {
-        TileAnswer::Found(tile) => pair_of(0, tile.x, tile.y),
-        TileAnswer::Refused(number) => pair_of(number, 0, 0),
+    Tile {
+        x: at.row as i32,
+        y: at.column as i32,
     }
 }
 
-// The pair of a grid, its column first.
-fn of_grid(answer: GridAnswer) -> PairTold
-    ensures { result ≡ pair_told of_grid (told_by no_pair (grid_answer answer)) }
+// Lays a pair in the run, where it is found and the run has room for it, and answers that it is one.
+fn laid(pair: Result<Tile, Refusal>, run: &mut [i32]) -> Result<u32, Refusal>
+    ensures { Lists (told_by origin pair).number ((told_by origin pair).value ∷ []) run.old result run.new }
 {
-    match answer {
-        GridAnswer::Found(found) => pair_of(0, found.column, found.row),
-        GridAnswer::Refused(number) => pair_of(number, 0, 0),
-    }
-}
-
-// The pair of a row and a column, the row first.
-fn of_row_column(answer: RowColumnAnswer) -> PairTold
-    requires { Signed (told_by (row_column 0 0) (row_column_answer answer)).value }
-    ensures { result ≡ pair_told of_row_column (told_by (row_column 0 0) (row_column_answer answer)) }
-{
-    match answer {
-        RowColumnAnswer::Found(at) => pair_of(0, at.row as i32, at.column as i32),
-        RowColumnAnswer::Refused(number) => pair_of(number, 0, 0),
-    }
-}
-
-// Writes the pair, where it is not refused and the run has room for it.
-fn written(pair: PairTold, run: &mut [i32]) -> i64
-    ensures { ListCall pair.number (pair.laid ∷ []) run.old run.new result }
-{
-    if pair.number != 0 {
-        return told(pair.number);
-    }
+    let entries = pair?;
     if run.len() < 2 {
-        return told(refusals::RUN_TOO_SHORT);
+        return Err(Refusal::RunTooShort);
     }
-    runs::put(run, 0, pair.laid);
-    1
+    runs::put(run, 0, entries);
+    Ok(1)
+}
+
+// The same, as C is told it.
+fn written(pair: Result<Tile, Refusal>, run: &mut [i32]) -> i64
+    ensures { ListCall (told_by origin pair).number ((told_by origin pair).value ∷ []) run.old run.new result }
+{
+    answer_told(laid(pair, run))
 }
 
 // The tile of a map that has an index.
@@ -88,7 +65,7 @@ pub extern "C" fn kyrla_tile(cx: i32, cy: i32, radius: u32, at: u32, run: &mut [
     ensures { PairCall (FromHexmod (map_at cx cy radius) (index at)) of_tile run.old run.new result }
 {
     let map = map_at(cx, cy, radius);
-    let pair = of_tile(storage::from_hexmod_coordinates(map, Index(at)));
+    let pair = storage::from_hexmod_coordinates(map, Index(at));
     written(pair, run)
 }
 
@@ -105,7 +82,7 @@ pub extern "C" fn kyrla_row_column(
     ensures { PairCall (λ told. told ≡ to_row_column (map_at cx cy radius) (tile x y)) of_row_column run.old run.new result }
 {
     let map = map_at(cx, cy, radius);
-    let pair = of_row_column(storage::to_row_column(map, Tile { x, y }));
+    let pair = storage::to_row_column(map, Tile { x, y }).map(of_row_column);
     written(pair, run)
 }
 
@@ -122,7 +99,7 @@ pub extern "C" fn kyrla_tile_at(
     ensures { PairCall (FromRowColumn (map_at cx cy radius) (row_column row column)) of_tile run.old run.new result }
 {
     let map = map_at(cx, cy, radius);
-    let pair = of_tile(storage::from_row_column(map, RowColumn { row, column }));
+    let pair = storage::from_row_column(map, RowColumn { row, column });
     written(pair, run)
 }
 
@@ -138,7 +115,7 @@ pub extern "C" fn kyrla_to_offset(
     ensures { PairCall (λ told. told ≡ to_offset (tile x y) mode orientation) of_grid run.old run.new result }
 {
     let tile = Tile { x, y };
-    let pair = of_grid(conversions::to_offset_coordinates(tile, mode, orientation));
+    let pair = conversions::to_offset_coordinates(tile, mode, orientation).map(of_grid);
     written(pair, run)
 }
 
@@ -154,7 +131,7 @@ pub extern "C" fn kyrla_from_offset(
     ensures { PairCall (FromOffset (pair column row) mode orientation) of_tile run.old run.new result }
 {
     let asked = GridPair { column, row };
-    let pair = of_tile(conversions::from_offset_coordinates(asked, mode, orientation));
+    let pair = conversions::from_offset_coordinates(asked, mode, orientation);
     written(pair, run)
 }
 
@@ -164,7 +141,7 @@ pub extern "C" fn kyrla_to_doubled(x: i32, y: i32, mode: u32, run: &mut [i32]) -
     ensures { PairCall (λ told. told ≡ to_doubled (tile x y) mode) of_grid run.old run.new result }
 {
     let tile = Tile { x, y };
-    let pair = of_grid(conversions::to_doubled_coordinates(tile, mode));
+    let pair = conversions::to_doubled_coordinates(tile, mode).map(of_grid);
     written(pair, run)
 }
 
@@ -174,6 +151,6 @@ pub extern "C" fn kyrla_from_doubled(column: i32, row: i32, mode: u32, run: &mut
     ensures { PairCall (FromDoubled (pair column row) mode) of_tile run.old run.new result }
 {
     let asked = GridPair { column, row };
-    let pair = of_tile(conversions::from_doubled_coordinates(asked, mode));
+    let pair = conversions::from_doubled_coordinates(asked, mode);
     written(pair, run)
 }

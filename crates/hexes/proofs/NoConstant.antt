@@ -1,17 +1,18 @@
 -- No one answer serves every input: a call that answers the same always, or refuses always, breaks its promise. Two inputs show it of each call.
 use mathlib.Core.Path.{◌≡◌, refl, sym, ap, ◌∙◌}
 use mathlib.Core.Bool.{Bool, true, false}
-use Prim.Native.Nat.{ℕ}
+use Prim.Native.Nat.{ℕ, ◌-◌}
 use native.Mathlib.Omega.{arith}
 use lib.IntN.{pos, nat_abs}
-use Rattle.hexes.specs.Answers.{Told, origin, tile_answer, TileTells, judged_tile}
+use Rattle.hexes.specs.Answers.{Told, Answer, origin, TileTells, judged_tile}
 use Rattle.hexes.specs.Directions.{step_of, turned_by}
+use Rattle.hexes.specs.Refusals.{number_of}
 use Rattle.hexes.specs.Tiles.{tile, place, span, neighbor_of, distance_of, within_limit}
 use Rattle.hexes.specs.declared.Direction.{Direction}
 use Rattle.hexes.specs.declared.Place.{Place}
 use Rattle.hexes.specs.declared.Step.{Step}
 use Rattle.hexes.specs.declared.Tile.{Tile}
-use Rattle.hexes.specs.declared.TileAnswer.{TileAnswer}
+use Rattle.hexes.specs.declared.refusal.Refusal.{Refusal}
 use Rattle.hexes.proofs.Tells.{tells_both}
 
 -- Two values of different size are not one value.
@@ -47,11 +48,14 @@ pub distance_no_constant : (r : ℕ) → ((a b : Tile) → r ≡ distance_of a b
 unfolding one distance_of span
 distance_no_constant r h = apart (λ (n : ℕ). n) (h origin origin) (h origin one) refl refl
 
-pub judged_no_constant : (r : TileAnswer) → ((at : Place) → TileTells r (λ told. told ≡ judged_tile at)) → ⊥
+pub judged_no_constant : (r : Answer Tile) → ((at : Place) → TileTells r (λ told. told ≡ judged_tile at)) → ⊥
 unfolding one judged_tile within_limit
 judged_no_constant r h =
-    tells_both origin _ _ (λ told p q. apart (λ (v : Told Tile). nat_abs v.value.x) p q refl refl) (tile_answer r) (h (place origin)) (h (place one))
+    tells_both origin _ _ (λ told p q. apart (λ (v : Told Tile). nat_abs v.value.x) p q refl refl) r (h (place origin)) (h (place one))
 
 pub within_limit_no_constant : (r : Bool) → ((t : Tile) → r ≡ within_limit t) → ⊥
 unfolding truth within_limit
 within_limit_no_constant r h = apart truth (h (tile (pos 1000001) (pos 0))) (h origin) refl refl
+
+pub refusal_number_no_constant : (r : ℕ) → ((e : Refusal) → r ≡ number_of e) → ⊥
+refusal_number_no_constant r h = apart (λ (n : ℕ). n - 1) (h Refusal.BeyondLimit) (h Refusal.TooLarge) refl refl

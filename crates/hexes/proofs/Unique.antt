@@ -2,14 +2,15 @@
 use mathlib.Core.Path.{◌≡◌, sym, ◌∙◌}
 use mathlib.Core.Bool.{Bool}
 use Prim.Native.Nat.{ℕ}
-use Rattle.hexes.specs.Answers.{TileTells, judged_tile}
+use Rattle.hexes.specs.Answers.{Answer, TileTells, judged_tile}
 use Rattle.hexes.specs.Directions.{step_of, turned_by}
+use Rattle.hexes.specs.Refusals.{number_of}
 use Rattle.hexes.specs.Tiles.{place, neighbor_of, distance_of, within_limit}
 use Rattle.hexes.specs.declared.Direction.{Direction}
 use Rattle.hexes.specs.declared.Place.{Place}
 use Rattle.hexes.specs.declared.Step.{Step}
 use Rattle.hexes.specs.declared.Tile.{Tile}
-use Rattle.hexes.specs.declared.TileAnswer.{TileAnswer}
+use Rattle.hexes.specs.declared.refusal.Refusal.{Refusal}
 use Rattle.hexes.proofs.Tells.{one_value, tile_tells_one}
 
 pub step_of_unique : (d : ℕ) {r s : Step} → r ≡ step_of d → s ≡ step_of d → r ≡ s
@@ -30,8 +31,11 @@ neighbor_unique t d p q = p ∙ sym q
 pub distance_unique : (a b : Tile) {r s : ℕ} → r ≡ distance_of a b → s ≡ distance_of a b → r ≡ s
 distance_unique a b p q = p ∙ sym q
 
-pub judged_unique : (at : Place) (r s : TileAnswer) → TileTells r (λ told. told ≡ judged_tile at) → TileTells s (λ told. told ≡ judged_tile at) → r ≡ s
+pub judged_unique : (at : Place) (r s : Answer Tile) → TileTells r (λ told. told ≡ judged_tile at) → TileTells s (λ told. told ≡ judged_tile at) → r ≡ s
 judged_unique at r s = tile_tells_one _ (one_value (judged_tile at)) r s
 
 pub within_limit_unique : (t : Tile) {r s : Bool} → r ≡ within_limit t → s ≡ within_limit t → r ≡ s
 within_limit_unique t p q = p ∙ sym q
+
+pub refusal_number_unique : (e : Refusal) {r s : ℕ} → r ≡ number_of e → s ≡ number_of e → r ≡ s
+refusal_number_unique e p q = p ∙ sym q

@@ -1,6 +1,7 @@
--- The refusal numbers, each named once. `src/refusals.rt` names the same numbers for the code. 0 is no refusal. Where several apply the lowest is given, but for
+-- The refusal numbers, each named once. `src/refusal.rt` gives the same numbers to the refusals of the code. 0 is no refusal. Where several apply the lowest is given, but for
 -- conversions from a grid, which judge an unknown number first, then an odd pair, then the limit.
-use Rattle.std.specs.Prelude.{ℕ}
+use Rattle.std.specs.Prelude.{ℕ, Option, None, Some}
+use Rattle.hexes.specs.declared.refusal.Refusal.{Refusal}
 
 -- A coordinate, or a centre, beyond the limit; or a pair whose tile is beyond it.
 abbrev pub beyond_limit : ℕ
@@ -37,3 +38,19 @@ no_open_path = 8
 -- A totals table that is not right.
 abbrev pub not_right : ℕ
 not_right = 9
+
+-- The number of a refusal of the code. (9 is told with an index: `Rattle.field_of_movement.specs.Calls`.)
+abbrev pub number_of : Refusal → ℕ
+number_of Refusal.BeyondLimit = beyond_limit
+number_of Refusal.TooLarge = too_large
+number_of Refusal.UnknownNumber = unknown_number
+number_of Refusal.OddPair = odd_pair
+number_of Refusal.NotOfMap = not_of_map
+number_of Refusal.WrongLength = wrong_length
+number_of Refusal.RunTooShort = run_too_short
+number_of Refusal.NoOpenPath = no_open_path
+
+-- The number of what may be a refusal, 0 where there is none.
+abbrev pub number_given : Option Refusal → ℕ
+number_given None = 0
+number_given (Some e) = number_of e

@@ -3,41 +3,36 @@
 #![tactic(auto)]
 
 pub mod limits;
-pub mod refusals;
+mod refusal;
 
-ghost use Rattle.std.specs.Prelude.{◌≡◌, max};
+ghost use Rattle.std.specs.Prelude.{◌≡◌};
 ghost use Rattle.hexes.specs.Tiles.{place, neighbor_of, distance_of, within_limit};
 ghost use Rattle.hexes.specs.Directions.{step_of, turned_by};
 ghost use Rattle.hexes.specs.Answers.{TileTells, judged_tile};
 
+pub use refusal::Refusal;
+
 // A tile by its axial coordinates.
-#[derive(Clone, Copy)]
+#[derive(Clone, Copy, Debug, PartialEq, Eq)]
 pub struct Tile {
     pub x: i32,
     pub y: i32,
 }
 
 // A pair of coordinates that a tile may not be able to hold: what a sum or a conversion gives before it is judged.
-#[derive(Clone, Copy)]
+#[derive(Clone, Copy, Debug, PartialEq, Eq)]
 pub struct Place {
     pub x: i64,
     pub y: i64,
 }
 
 // A direction number, 0 to 5 counter-clockwise from (1, 0). It is a type of its own, so that no index is taken for one.
-#[derive(Clone, Copy)]
+#[derive(Clone, Copy, Debug, PartialEq, Eq)]
 pub struct Direction(pub u32);
 
 // What a direction adds to a tile's x and y.
-#[derive(Clone, Copy)]
+#[derive(Clone, Copy, Debug, PartialEq, Eq)]
 pub struct Step(pub i32, pub i32);
-
-// A tile, or the number of a refusal.
-#[derive(Clone, Copy)]
-pub enum TileAnswer {
-    Found(Tile),
-    Refused(u32),
-}
 
 // The six steps, in the order of their direction numbers.
 const STEPS: [Step; 6] = [
@@ -73,12 +68,14 @@ pub fn opposite(direction: Direction) -> Direction
 }
 
 // The place of a tile.
-pub fn place_of(tile: Tile) -> Place
-    ensures { result ≡ place tile }
-{
-    Place {
-        x: tile.x as i64,
-        y: tile.y as i64,
+impl From<Tile> for Place {
+    ghost from_gives = { λ tile at. at ≡ place tile };
+
+    fn from(tile: Tile) -> Place {
+        Place {
+            x: tile.x as i64,
+            y: tile.y as i64,
+        }
     }
 }
 
@@ -93,45 +90,39 @@ pub fn neighbor(tile: Tile, direction: Direction) -> Place
     }
 }
 
-// The larger of two numbers.
-fn larger(a: u64, b: u64) -> u64
-    ensures { result ≡ max a b }
-{
-    if a < b { b } else { a }
-}
-
 // The distance of any two tiles, exact: differences are taken in whole numbers, so none is refused.
 pub fn distance(a: Tile, b: Tile) -> u64
     ensures { result ≡ distance_of a b }
 {
     let dx = whole::difference(b.x, a.x);
     let dy = whole::difference(b.y, a.y);
-    let sides = larger(whole::absolute(dx), whole::absolute(dy));
-    larger(sides, whole::absolute(dx + dy))
+    let sides = whole::absolute(dx).max(whole::absolute(dy));
+    sides.max(whole::absolute(dx + dy))
 }
 
 // The tile at a place, or refusal 1 where a coordinate is beyond the limit.
-pub fn judged(at: Place) -> TileAnswer
-    ensures { TileTells result (λ told. told ≡ judged_tile at) }
-{
-    if whole::absolute(at.x) > limits::COORDINATE {
-        return TileAnswer::Refused(refusals::BEYOND_LIMIT);
+impl TryFrom<Place> for Tile {
+    type Error = Refusal;
+
+    ghost try_from_gives = { λ at answer. TileTells answer (λ told. told ≡ judged_tile at) };
+
+    fn try_from(at: Place) -> Result<Tile, Refusal> {
+        if whole::absolute(at.x) > limits::COORDINATE {
+            return Err(Refusal::BeyondLimit);
+        }
+        if whole::absolute(at.y) > limits::COORDINATE {
+            return Err(Refusal::BeyondLimit);
+        }
+        Ok(Tile {
+            x: at.x as i32,
+            y: at.y as i32,
+        })
     }
-    if whole::absolute(at.y) > limits::COORDINATE {
-        return TileAnswer::Refused(refusals::BEYOND_LIMIT);
-    }
-    TileAnswer::Found(Tile {
-        x: at.x as i32,
-        y: at.y as i32,
-    })
 }
 
 // Is a tile within the coordinate limit?
 pub fn within_limit(tile: Tile) -> bool
     ensures { result ≡ within_limit tile }
 {
-    let TileAnswer::Found(_) = judged(place_of(tile)) else {
-        return false;
-    };
-    true
+    Tile::try_from(Place::from(tile)).is_ok()
 }

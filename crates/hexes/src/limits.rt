@@ -9,7 +9,10 @@ pub const RANGE: u32 = 1_000;
 // A map's radius is at most this.
 pub const RADIUS: u32 = 60;
 
-// The effort of a tile that nobody may enter.
+// The map of the largest radius has this many tiles, and no other has more.
+pub const AREA: usize = 3 * RADIUS as usize * (RADIUS as usize + 1) + 1;
+
+// The effort of a tile that nobody may enter. This mark and the two below are numbers, since the tables that hold them are lent by C.
 pub const BARRED: u16 = 65_535;
 
 // The total of a tile to which no way leads.

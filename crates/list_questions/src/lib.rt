@@ -4,13 +4,13 @@
 
 mod digest;
 
+ghost use Rattle.std.specs.Prelude.{Some};
 ghost use Rattle.questions.specs.Answers.{Takes};
 
 use digest::digest_of;
-use hexes::{Direction, Tile};
-use questions::answer::{Laid, put, whole, wide};
-use questions::arguments::{TileArgument, UnsignedArgument, tile_at, unsigned_at};
-use runs::ListAnswer;
+use hexes::{Direction, Refusal, Tile};
+use questions::answer::{Laid, lay_entries, lay_head, put, whole};
+use questions::arguments::{argument_at, tile_at};
 
 // How many words the question of a list takes, the kind included.
 const TOOK: usize = 8;
@@ -25,7 +25,7 @@ const UNTOUCHED: i32 = -7;
 const BY_ENTRY: usize = 400;
 
 // The arguments: K x y first last direction sense room. `direction` is the vertex where the kind asks for one.
-#[derive(Clone, Copy)]
+#[derive(Clone, Copy, Debug, PartialEq, Eq)]
 struct ListQuestion {
     centre: Tile,
     first: u32,
@@ -35,72 +35,32 @@ struct ListQuestion {
     room: u32,
 }
 
-// Seven words as the arguments of a list.
-#[derive(Clone, Copy)]
-enum ListArguments {
-    Is(ListQuestion),
-    Not,
-}
-
 // Asks the question of a list that the words begin with, and lays out its answer.
-pub fn answered(kind: u32, words: &[i64], numbers: &mut [i64]) -> Laid
+pub fn answered(kind: u32, words: &[i64], numbers: &mut [i64]) -> Option<Laid>
     ensures { Takes 8 result }
 {
-    let ListArguments::Is(question) = arguments(words) else {
-        return Laid::Unreadable;
-    };
-    let room = question.room as usize;
-    if room > ROOM {
-        return Laid::Unreadable;
-    }
-    if fits_kind(kind, question) {
-        let mut run = [UNTOUCHED; ROOM];
-        return laid(kind, question, &mut run[..room], numbers);
-    }
-    Laid::Unreadable
+    let question = arguments(words)?;
+    let mut run = [UNTOUCHED; ROOM];
+    let lent = run.get_mut(..question.room as usize)?;
+    let answer = listed(kind, question, lent)?;
+    Some(laid(answer, lent, numbers))
 }
 
 // The seven words after the kind.
-fn arguments(words: &[i64]) -> ListArguments {
-    let TileArgument::Is(centre) = tile_at(words, 1, 2) else {
-        return ListArguments::Not;
-    };
-    let UnsignedArgument::Is(first) = unsigned_at(words, 3) else {
-        return ListArguments::Not;
-    };
-    let UnsignedArgument::Is(last) = unsigned_at(words, 4) else {
-        return ListArguments::Not;
-    };
-    let UnsignedArgument::Is(direction) = unsigned_at(words, 5) else {
-        return ListArguments::Not;
-    };
-    let UnsignedArgument::Is(sense) = unsigned_at(words, 6) else {
-        return ListArguments::Not;
-    };
-    let UnsignedArgument::Is(room) = unsigned_at(words, 7) else {
-        return ListArguments::Not;
-    };
-    ListArguments::Is(ListQuestion {
-        centre,
-        first,
-        last,
-        direction,
-        sense,
-        room,
+fn arguments(words: &[i64]) -> Option<ListQuestion> {
+    Some(ListQuestion {
+        centre: tile_at(words, 1, 2)?,
+        first: argument_at(words, 3)?,
+        last: argument_at(words, 4)?,
+        direction: argument_at(words, 5)?,
+        sense: argument_at(words, 6)?,
+        room: argument_at(words, 7)?,
     })
 }
 
-// Whether an argument that the kind does not hand on is written as it must be: a ring and an edge have one range, and a corner wedge has no sense.
-fn fits_kind(kind: u32, question: ListQuestion) -> bool {
-    match kind {
-        10 | 11 => question.first == question.last,
-        13 => question.sense == 0,
-        _ => true,
-    }
-}
-
 // The call of each kind: 10 ring, 11 edge of a ring, 12 wedge, 13 corner wedge, 14 spiral.
-fn listed(kind: u32, question: ListQuestion, run: &mut [i32]) -> ListAnswer {
+// An argument that the kind does not hand on must be written as it must be: a ring and an edge have one range, and a corner wedge has no sense.
+fn listed(kind: u32, question: ListQuestion, run: &mut [i32]) -> Option<Result<u32, Refusal>> {
     let ListQuestion {
         centre,
         first,
@@ -109,47 +69,33 @@ fn listed(kind: u32, question: ListQuestion, run: &mut [i32]) -> ListAnswer {
         sense,
         room: _,
     } = question;
+    // The kinds are numbers of the file format, and are matched here alone.
     match kind {
-        10 => rings::ring(centre, first, Direction(direction), sense, run),
-        11 => rings::ring_edge(centre, first, direction, sense, run),
-        12 => rings::wedge(centre, first, last, direction, sense, run),
-        13 => rings::corner_wedge(centre, first, last, Direction(direction), run),
-        _ => rings::spiral(centre, first, last, Direction(direction), sense, run),
+        10 | 11 if first != last => None,
+        13 if sense != 0 => None,
+        10 => Some(rings::ring(centre, first, Direction(direction), sense, run)),
+        11 => Some(rings::ring_edge(centre, first, direction, sense, run)),
+        12 => Some(rings::wedge(centre, first, last, direction, sense, run)),
+        13 => Some(rings::corner_wedge(centre, first, last, Direction(direction), run)),
+        _ => Some(rings::spiral(centre, first, last, Direction(direction), sense, run)),
     }
 }
 
-// Lends the run to the call, and lays out the answer: the refusal number, the number of tiles, and the run, or its digest where the run is long.
-fn laid(kind: u32, question: ListQuestion, run: &mut [i32], numbers: &mut [i64]) -> Laid
-    ensures { Takes 8 result }
+// Lays out the answer: the refusal number, the number of tiles, and the run, or its digest where the run is long.
+fn laid(answer: Result<u32, Refusal>, run: &[i32], numbers: &mut [i64]) -> Laid
+    ensures { Takes 8 (Some result) }
 {
-    head(listed(kind, question, run), numbers);
+    lay_head(answer, numbers);
     if run.len() > BY_ENTRY {
         put(numbers, 2, whole(digest_of(run)));
-        return Laid::Numbers(TOOK, 3);
+        return Laid {
+            took: TOOK,
+            length: 3,
+        };
     }
-    entries(run, numbers);
-    Laid::Numbers(TOOK, run.len() + 2)
-}
-
-// The refusal number and the number of tiles, which is 0 where the list is refused.
-fn head(told: ListAnswer, numbers: &mut [i64]) {
-    match told {
-        ListAnswer::Listed(tiles) => {
-            put(numbers, 0, 0);
-            put(numbers, 1, tiles as i64);
-        }
-        ListAnswer::Refused(number) => {
-            put(numbers, 0, number as i64);
-            put(numbers, 1, 0);
-        }
-    }
-}
-
-// Every entry of the run, behind the two numbers that head it.
-fn entries(run: &[i32], numbers: &mut [i64]) {
-    let mut i: usize = 0;
-    while i < run.len() {
-        put(numbers, i + 2, wide(run[i]));
-        i += 1;
+    lay_entries(run, 2, numbers);
+    Laid {
+        took: TOOK,
+        length: run.len() + 2,
     }
 }

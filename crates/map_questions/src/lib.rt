@@ -5,134 +5,105 @@
 
 ghost use Rattle.questions.specs.Answers.{Lays};
 
-use hexes::Direction;
-use questions::answer::{Asked, Laid, lay, one, three, tile_answer, two};
-use questions::arguments::{TileArgument, UnsignedArgument, tile_at, unsigned_at};
-use storage::{Index, IndexAnswer, Map, NO_INDEX, RowColumn, RowColumnAnswer};
-
-// Three words as a map.
-#[derive(Clone, Copy)]
-enum MapArgument {
-    Is(Map),
-    Not,
-}
+use hexes::{Direction, Refusal};
+use questions::answer::{Answer, Laid, lay, tile_answer, told};
+use questions::arguments::{argument_at, tile_at};
+use storage::{Index, Map, RowColumn};
 
 // Asks the question of a map that the words begin with, and lays out its answer.
-pub fn answered(kind: u32, words: &[i64], numbers: &mut [i64]) -> Laid
+pub fn answered(kind: u32, words: &[i64], numbers: &mut [i64]) -> Option<Laid>
     ensures { Lays numbers.old result numbers.new }
 {
     lay(asked(kind, words), numbers)
 }
 
-// The map of the question is read first: no kind goes without one.
-fn asked(kind: u32, words: &[i64]) -> Asked {
-    let MapArgument::Is(map) = map_of(words) else {
-        return Asked::Unreadable;
-    };
+// The answer of each kind. The map of the question is read first: no kind goes without one.
+fn asked(kind: u32, words: &[i64]) -> Option<Answer> {
+    let map = map_of(words)?;
+    // The kinds are numbers of the file format, and are matched here alone.
     match kind {
-        20 => one(4, storage::refusal_of(map) as i64),
+        20 => Some(refusal(map)),
         21 => is_of_map(map, words),
         22 => to_index(map, words),
         23 => from_index(map, words),
         24 => to_row_column(map, words),
         25 => from_row_column(map, words),
         26 => neighbor(map, words),
-        27 => one(4, storage::area(map) as i64),
+        27 => Some(Answer::one(4, i64::from(storage::area(map)))),
         28 => all_neighbors(map, words),
-        _ => Asked::Unreadable,
+        _ => None,
     }
 }
 
 // The words after the kind as a map.
-fn map_of(words: &[i64]) -> MapArgument {
-    let TileArgument::Is(centre) = tile_at(words, 1, 2) else {
-        return MapArgument::Not;
-    };
-    let UnsignedArgument::Is(radius) = unsigned_at(words, 3) else {
-        return MapArgument::Not;
-    };
-    MapArgument::Is(Map { centre, radius })
+fn map_of(words: &[i64]) -> Option<Map> {
+    Some(Map {
+        centre: tile_at(words, 1, 2)?,
+        radius: argument_at(words, 3)?,
+    })
+}
+
+// 20 map | refusal, 0 for none
+fn refusal(map: Map) -> Answer {
+    let number = storage::refusal_of(map).map_or(0, |refusal| i64::from(refusal.number()));
+    Answer::one(4, number)
 }
 
 // 21 map x y | 1 for a tile of the map, else 0
-fn is_of_map(map: Map, words: &[i64]) -> Asked {
-    let TileArgument::Is(tile) = tile_at(words, 4, 5) else {
-        return Asked::Unreadable;
-    };
-    one(6, if storage::is_of_map(map, tile) { 1 } else { 0 })
+fn is_of_map(map: Map, words: &[i64]) -> Option<Answer> {
+    let tile = tile_at(words, 4, 5)?;
+    Some(Answer::one(6, i64::from(storage::is_of_map(map, tile))))
 }
 
 // 22 map x y | refusal index
-fn to_index(map: Map, words: &[i64]) -> Asked {
-    let TileArgument::Is(tile) = tile_at(words, 4, 5) else {
-        return Asked::Unreadable;
-    };
-    let told = storage::to_hexmod_coordinates(map, tile);
-    match told {
-        IndexAnswer::Found(index) => two(6, 0, index.0 as i64),
-        IndexAnswer::Refused(number) => two(6, number as i64, 0),
-    }
+fn to_index(map: Map, words: &[i64]) -> Option<Answer> {
+    let tile = tile_at(words, 4, 5)?;
+    Some(index_answer(storage::to_hexmod_coordinates(map, tile)))
 }
 
 // 23 map index | refusal x y
-fn from_index(map: Map, words: &[i64]) -> Asked {
-    let UnsignedArgument::Is(index) = unsigned_at(words, 4) else {
-        return Asked::Unreadable;
-    };
-    tile_answer(5, storage::from_hexmod_coordinates(map, Index(index)))
+fn from_index(map: Map, words: &[i64]) -> Option<Answer> {
+    let index = Index(argument_at(words, 4)?);
+    Some(tile_answer(5, storage::from_hexmod_coordinates(map, index)))
 }
 
 // 24 map x y | refusal row column
-fn to_row_column(map: Map, words: &[i64]) -> Asked {
-    let TileArgument::Is(tile) = tile_at(words, 4, 5) else {
-        return Asked::Unreadable;
-    };
-    let told = storage::to_row_column(map, tile);
-    match told {
-        RowColumnAnswer::Found(at) => three(6, 0, at.row as i64, at.column as i64),
-        RowColumnAnswer::Refused(number) => three(6, number as i64, 0, 0),
-    }
+fn to_row_column(map: Map, words: &[i64]) -> Option<Answer> {
+    let tile = tile_at(words, 4, 5)?;
+    let (number, at) = told(
+        storage::to_row_column(map, tile),
+        RowColumn { row: 0, column: 0 },
+    );
+    Some(Answer::three(6, number, i64::from(at.row), i64::from(at.column)))
 }
 
 // 25 map row column | refusal x y
-fn from_row_column(map: Map, words: &[i64]) -> Asked {
-    let UnsignedArgument::Is(row) = unsigned_at(words, 4) else {
-        return Asked::Unreadable;
+fn from_row_column(map: Map, words: &[i64]) -> Option<Answer> {
+    let at = RowColumn {
+        row: argument_at(words, 4)?,
+        column: argument_at(words, 5)?,
     };
-    let UnsignedArgument::Is(column) = unsigned_at(words, 5) else {
-        return Asked::Unreadable;
-    };
-    tile_answer(6, storage::from_row_column(map, RowColumn { row, column }))
+    Some(tile_answer(6, storage::from_row_column(map, at)))
 }
 
 // 26 map index direction | refusal index
-fn neighbor(map: Map, words: &[i64]) -> Asked {
-    let UnsignedArgument::Is(index) = unsigned_at(words, 4) else {
-        return Asked::Unreadable;
-    };
-    let UnsignedArgument::Is(direction) = unsigned_at(words, 5) else {
-        return Asked::Unreadable;
-    };
-    let told = storage::neighbor(map, Index(index), Direction(direction));
-    match told {
-        IndexAnswer::Found(beside) => two(6, 0, beside.0 as i64),
-        IndexAnswer::Refused(number) => two(6, number as i64, 0),
-    }
+fn neighbor(map: Map, words: &[i64]) -> Option<Answer> {
+    let index = Index(argument_at(words, 4)?);
+    let direction = Direction(argument_at(words, 5)?);
+    Some(index_answer(storage::neighbor(map, index, direction)))
 }
 
 // 28 map index direction | entry of the row of six, -1 for none
-fn all_neighbors(map: Map, words: &[i64]) -> Asked {
-    let UnsignedArgument::Is(index) = unsigned_at(words, 4) else {
-        return Asked::Unreadable;
-    };
-    let UnsignedArgument::Is(direction) = unsigned_at(words, 5) else {
-        return Asked::Unreadable;
-    };
-    let entries = storage::all_neighbors(map, Index(index));
-    one(6, entry_number(entries[(direction % 6) as usize]))
+fn all_neighbors(map: Map, words: &[i64]) -> Option<Answer> {
+    let index = Index(argument_at(words, 4)?);
+    let direction: u32 = argument_at(words, 5)?;
+    let entries = storage::all_neighbors(map, index);
+    let entry = entries[(direction % 6) as usize].map_or(-1, |beside| i64::from(beside.0));
+    Some(Answer::one(6, entry))
 }
 
-// An entry as a number: -1 for none.
-fn entry_number(entry: u32) -> i64 {
-    if entry == NO_INDEX { -1 } else { entry as i64 }
+// An index, or a refusal, as numbers. Both questions that it answers take six words.
+fn index_answer(answer: Result<Index, Refusal>) -> Answer {
+    let (number, index) = told(answer, Index(0));
+    Answer::two(6, number, i64::from(index.0))
 }

@@ -6,13 +6,15 @@ use Prim.Native.Nat.{ℕ, zero, suc, ◌≤◌, ◌<◌}
 use native.Mathlib.Omega.{arith}
 use lib.IntN.{ℤ}
 use lib.ListN.{length}
+use Rattle.std.specs.Prelude.{Err}
 use Rattle.paths.specs.Tables.{at}
 use Rattle.routes.specs.Ranks.{Ranks}
-use Rattle.hexes.specs.Answers.{Told, accepted, refused, provided}
+use Rattle.hexes.specs.Answers.{Told, Answer, accepted, refused, provided}
 use Rattle.hexes.specs.Limits.{radius_limit}
-use Rattle.hexes.specs.Refusals.{not_of_map}
+use Rattle.hexes.specs.Refusals.{number_of, not_of_map}
 use Rattle.hexes.specs.declared.Tile.{Tile}
-use Rattle.runs.specs.declared.ListAnswer.{ListAnswer}
+use Rattle.hexes.specs.declared.refusal.Refusal.{Refusal}
+use Rattle.hexes.proofs.Tells.{refusal_number}
 use Rattle.runs.proofs.Ending.{refused_for, lists_same}
 use Rattle.storage.specs.Hexmod.{index, index_in, index_of, to_hexmod}
 use Rattle.storage.specs.Maps.{map_refusal, of_map, area_of, judged_by, to_place}
@@ -88,13 +90,13 @@ module _ (map : Map) (efforts : List ℕ) (start end : Tile) (before : List ℕ)
             ranks_in_tiles map small efforts short end known.on after (filled after f).0
             (subst (λ (t : ℕ). Ranks (ground_of map efforts) t (at after)) is_end (filled after f).1)
 
-        leads : (r : ListAnswer) (exit : List ℤ) → ways.TellsWay map efforts after (index_in map start) (index_in map end) entry r exit → Leads map efforts start end entry r exit
+        leads : (r : Answer ℕ) (exit : List ℤ) → ways.TellsWay map efforts after (index_in map start) (index_in map end) entry r exit → Leads map efforts start end entry r exit
         leads r exit (ways.lost none listed) = lost ((none_iff map small efforts short end known.on after table start found.1.0).0 none) listed
         leads r exit (ways.led some ds way listed) =
             led _ (down_tiles map small efforts short end known.on after table start found.1.0 some ds way)
             (lists_same 0 _ _ (λ z. down_indices map small efforts short end known.on after table start found.1.0 some ds way) listed)
 
-        pub routes_accepted : (r : ListAnswer) (exit : List ℤ) → ways.TellsWay map efforts after i.0 j.0 entry r exit → Routes map efforts start end before entry r after exit
+        pub routes_accepted : (r : Answer ℕ) (exit : List ℤ) → ways.TellsWay map efforts after i.0 j.0 entry r exit → Routes map efforts start end before entry r after exit
         routes_accepted r exit w =
             record {
               refused = λ l. absurd (omega (arith, none, by_end));
@@ -102,9 +104,9 @@ module _ (map : Map) (efforts : List ℕ) (start end : Tile) (before : List ℕ)
             }
 
   -- Refused: both the table and the run are as they were.
-  pub routes_refused : (n : ℕ) → 0 < n → n ≡ route_refusal map start end (length efforts) (length before) → Routes map efforts start end before entry (ListAnswer.Refused n) before entry
-  routes_refused n h e =
+  pub routes_refused : (e : Refusal) → number_of e ≡ route_refusal map start end (length efforts) (length before) → Routes map efforts start end before entry (Err e) before entry
+  routes_refused e is =
       record {
-        refused = λ l. (refused_for (route_refusal map start end (length efforts) (length before)) [] entry e (λ z. omega arith), refl);
-        accepted = λ z. absurd (omega arith);
+        refused = λ l. (refused_for (route_refusal map start end (length efforts) (length before)) [] entry is, refl);
+        accepted = λ z. absurd (omega (arith, is, refusal_number e));
       }

@@ -30,6 +30,10 @@ module _ (efforts ranks : List ℕ) (t rank : ℕ) (has : rank < no_rank) where
   unfolding offer_of
   no_tile h = differs no_rank (λ z. omega arith) (rw (le-ltb t (length ranks) h))
 
+  pub none_makes : length ranks ≤ t → offer_of efforts ranks t ≡ rank → ⊥
+  unfolding offer_of
+  none_makes h e = let o : offer_of efforts ranks t ≡ no_rank = rw (le-ltb t (length ranks) h) in absurd (omega (arith, o, e))
+
   pub not_open : t < length ranks → barred ≤ get_or efforts t 0 → false ≡ eqb (offer_of efforts ranks t) rank
   unfolding offer_of
   not_open h b = differs no_rank (λ z. omega arith) (rw (lt-ltb t (length ranks) h, le-ltb (get_or efforts t 0) barred b))

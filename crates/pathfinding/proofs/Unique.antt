@@ -6,12 +6,11 @@ use Prim.Native.Nat.{ℕ, zero, suc, ◌≤◌, ◌<◌}
 use native.Mathlib.Omega.{arith}
 use lib.IntN.{ℤ}
 use lib.ListN.{length}
-use Rattle.hexes.specs.Answers.{provided}
+use Rattle.hexes.specs.Answers.{Answer, provided}
 use Rattle.hexes.specs.Limits.{radius_limit}
 use Rattle.hexes.specs.Refusals.{not_of_map, no_open_path}
 use Rattle.hexes.specs.declared.Tile.{Tile}
 use Rattle.hexes.proofs.Chains.{passed}
-use Rattle.runs.specs.declared.ListAnswer.{ListAnswer}
 use Rattle.runs.proofs.Ending.{lists_same}
 use Rattle.runs.proofs.Unique.{lists_unique}
 use Rattle.storage.specs.Maps.{map_refusal, of_map, judged_by}
@@ -33,7 +32,7 @@ known map start end efforts ranks e = go (map_refusal map) e
     go zero e = let p = passed (of_map map start) 4 (call_refusal map end efforts ranks) e in (p.0, (judged map end efforts ranks p.1).0)
     go (suc n) e = absurd (omega arith)
 
-pub route_unique : (map : Map) (efforts : List ℕ) (start end : Tile) (before : List ℕ) (entry : List ℤ) (r r' : ListAnswer) (after after' : List ℕ) (exit exit' : List ℤ) → Efforts efforts
+pub route_unique : (map : Map) (efforts : List ℕ) (start end : Tile) (before : List ℕ) (entry : List ℤ) (r r' : Answer ℕ) (after after' : List ℕ) (exit exit' : List ℤ) → Efforts efforts
     → Routes map efforts start end before entry r after exit → Routes map efforts start end before entry r' after' exit' → ((r ≡ r') × (exit ≡ exit')) × (after ≡ after')
 route_unique map efforts start end before entry r r' after after' exit exit' short p q = go (route_refusal map start end (length efforts) (length before)) refl
   where

@@ -5,12 +5,12 @@ use Rattle.routes.specs.Descents.{Descent}
 use Rattle.routes.specs.Ranks.{multiplier, no_rank}
 use Rattle.routes.specs.Routes.{tiles_of}
 use Rattle.routes.specs.Turned.{turned}
+use Rattle.hexes.specs.Answers.{Answer}
 use Rattle.hexes.specs.Limits.{barred}
 use Rattle.hexes.specs.Refusals.{no_open_path}
 use Rattle.hexes.specs.declared.Tile.{Tile}
 use Rattle.runs.specs.Laid.{Laid}
 use Rattle.runs.specs.Runs.{Lists}
-use Rattle.runs.specs.declared.ListAnswer.{ListAnswer}
 use Rattle.storage.specs.Leaves.{tile_at_index}
 use Rattle.storage.specs.Maps.{map_refusal, area_of}
 use Rattle.storage.specs.declared.Map.{Map}
@@ -39,6 +39,6 @@ LaysDown map efforts ranks start end entry next exit =
     (ds : List ℕ) → Descent (turned (ground_of map efforts) multiplier) (at ranks) end start ds → Laid entry 0 (tiles_down map efforts start ds) next exit
 
 -- What is answered and left in the run: 8 if the start has no rank; else the tiles of the way down from it, or 7.
-pub data TellsWay (map : Map) (efforts ranks : List ℕ) (start end : ℕ) (entry : List ℤ) (r : ListAnswer) (exit : List ℤ) : Type 0 where
+pub data TellsWay (map : Map) (efforts ranks : List ℕ) (start end : ℕ) (entry : List ℤ) (r : Answer ℕ) (exit : List ℤ) : Type 0 where
   lost : get_or ranks start 0 ≡ no_rank → Lists no_open_path [] entry r exit → TellsWay map efforts ranks start end entry r exit
   led : get_or ranks start 0 < no_rank → (ds : List ℕ) → Descent (turned (ground_of map efforts) multiplier) (at ranks) end start ds → Lists 0 (tiles_down map efforts start ds) entry r exit → TellsWay map efforts ranks start end entry r exit

@@ -6,9 +6,9 @@ ghost use Rattle.pathfinding.specs.Calls.{Routes};
 
 mod way;
 
-use hexes::Tile;
-use runs::ListAnswer;
-use storage::{IndexAnswer, Map};
+use hexes::{Refusal, Tile};
+use storage::Map;
+use way::Way;
 
 // The best route from start to end, its tiles written to `run`, both ends included; and in `ranks` the rank of every tile to the end, by dense index. It answers the number of tiles.
 // A refusal of the arguments (1, 2, 5, 6) leaves both as they are; where no open path joins the two (8), or the run is too short (7), the ranks are there and the run is as it was.
@@ -19,17 +19,17 @@ pub fn route(
     end: Tile,
     ranks: &mut [u64],
     run: &mut [i32],
-) -> ListAnswer
+) -> Result<u32, Refusal>
     ensures { Routes map efforts.now start end ranks.old run.old result ranks.new run.new }
 {
-    let from = storage::to_hexmod_coordinates(map, start);
-    let IndexAnswer::Found(first) = from else {
-        return ListAnswer::Refused(storage::refusal_number(from));
-    };
-    let to = terrain::judge(map, end, efforts.len(), ranks.len());
-    let IndexAnswer::Found(last) = to else {
-        return ListAnswer::Refused(storage::refusal_number(to));
-    };
+    let first = storage::to_hexmod_coordinates(map, start)?;
+    let last = terrain::judge(map, end, efforts.len(), ranks.len())?;
     engine::fill_ranks(map, efforts, last, ranks);
-    way::led(map, efforts, ranks, first.0 as usize, last.0 as usize, run)
+    let way = Way {
+        map,
+        efforts,
+        ranks,
+        end: last.0 as usize,
+    };
+    way.led(first.0 as usize, run)
 }

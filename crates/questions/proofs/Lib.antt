@@ -1,6 +1,3 @@
 -- What the proofs of this crate share, and that each promise leaves one answer.
-pub mod Ranges
-pub mod Words
-pub mod Numbers
 pub mod Reading
 pub mod Unique

@@ -1,4 +1,4 @@
--- The definitions of words as arguments and as efforts, and of answers as numbers.
+-- The definitions of words as arguments and as entries, and of answers as numbers.
 pub mod Arguments
-pub mod Efforts
+pub mod Entries
 pub mod Answers

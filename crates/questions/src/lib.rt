@@ -4,4 +4,4 @@
 
 pub mod answer;
 pub mod arguments;
-pub mod efforts;
+pub mod entries;

@@ -4,22 +4,18 @@
 
 #![tactic(auto)]
 
-mod totals;
-
-ghost use Rattle.std.specs.Prelude.{◌+◌, ◌≤◌, length};
+ghost use Rattle.std.specs.Prelude.{◌+◌, length, Some};
 ghost use Rattle.range_questions.specs.Taking.{Says, TakesOf, TakesTables};
 
+use field_of_movement::Fault;
 use hexes::Tile;
-use questions::answer::{Laid, put};
-use questions::arguments::{TileArgument, UnsignedArgument, tile_at, unsigned_at};
-use questions::efforts::read_efforts;
-use storage::Map;
+use questions::answer::{Laid, lay_entries, put, told};
+use questions::arguments::{argument_at, tile_at};
+use questions::entries::read_entries;
+use storage::{Index, Map};
 
 // How many words stand before the efforts, the kind included.
 const HEAD: usize = 9;
-
-// Where the first effort stands.
-const FIRST_EFFORT: u32 = HEAD as u32;
 
 // How many entries a table has at most.
 const ROOM: usize = 1024;
@@ -28,62 +24,27 @@ const ROOM: usize = 1024;
 const UNTOUCHED: u32 = 7777;
 
 // The arguments before the tables.
-#[derive(Clone, Copy)]
+#[derive(Clone, Copy, Debug, PartialEq, Eq)]
 struct TableQuestion {
     map: Map,
     start: Tile,
     budget: u32,
 }
 
-// Six words as the arguments before the tables.
-#[derive(Clone, Copy)]
-enum TableArguments {
-    Is(TableQuestion),
-    Not,
-}
-
 // Asks the question of a table that the words begin with, and lays out its answer.
-pub fn answered(kind: u32, words: &[i64], numbers: &mut [i64]) -> Laid
+// Tables of the lengths that it names are lent to it, unless one has more entries than there is room for.
+pub fn answered(kind: u32, words: &[i64], numbers: &mut [i64]) -> Option<Laid>
     ensures { TakesTables kind words.now result }
 {
-    let UnsignedArgument::Is(effort_count) = unsigned_at(words, 7) else {
-        return Laid::Unreadable;
-    };
-    let UnsignedArgument::Is(total_count) = unsigned_at(words, 8) else {
-        return Laid::Unreadable;
-    };
-    lent(
-        kind,
-        words,
-        effort_count as usize,
-        total_count as usize,
-        numbers,
-    )
-}
-
-// Lends tables of these lengths to the question, unless one has more entries than there is room for.
-fn lent(
-    kind: u32,
-    words: &[i64],
-    effort_count: usize,
-    total_count: usize,
-    numbers: &mut [i64],
-) -> Laid
-    ensures { TakesOf kind effort_count total_count result }
-{
-    if effort_count > ROOM {
-        return Laid::Unreadable;
-    }
-    if total_count > ROOM {
-        return Laid::Unreadable;
-    }
+    let effort_count = argument_at::<u32>(words, 7)? as usize;
+    let total_count = argument_at::<u32>(words, 8)? as usize;
     let mut efforts = [0u16; ROOM];
     let mut totals = [UNTOUCHED; ROOM];
     laid(
         kind,
         words,
-        &mut efforts[..effort_count],
-        &mut totals[..total_count],
+        efforts.get_mut(..effort_count)?,
+        totals.get_mut(..total_count)?,
         numbers,
     )
 }
@@ -95,42 +56,30 @@ fn laid(
     efforts: &mut [u16],
     totals: &mut [u32],
     numbers: &mut [i64],
-) -> Laid
-    requires efforts_len_bound { length efforts.old ≤ 1024 }
-    requires totals_len_bound { length totals.old ≤ 1024 }
+) -> Option<Laid>
     ensures { TakesOf kind (length efforts.old) (length totals.old) result }
 {
-    let TableArguments::Is(question) = arguments(words) else {
-        return Laid::Unreadable;
-    };
-    if !read_efforts(words, FIRST_EFFORT, efforts) {
-        return Laid::Unreadable;
+    let question = arguments(words)?;
+    if !read_entries(words, HEAD, efforts) {
+        return None;
     }
+    // The kinds are numbers of the file format, and are matched here alone.
     match kind {
-        30 => riding_range(question, efforts, totals, numbers),
+        30 => Some(riding_range(question, efforts, totals, numbers)),
         31 => totals_check(question, words, efforts, totals, numbers),
-        _ => Laid::Unreadable,
+        _ => None,
     }
 }
 
-// The words between the kind and the lengths of the tables.
-fn arguments(words: &[i64]) -> TableArguments {
-    let TileArgument::Is(centre) = tile_at(words, 1, 2) else {
-        return TableArguments::Not;
-    };
-    let UnsignedArgument::Is(radius) = unsigned_at(words, 3) else {
-        return TableArguments::Not;
-    };
-    let TileArgument::Is(start) = tile_at(words, 4, 5) else {
-        return TableArguments::Not;
-    };
-    let UnsignedArgument::Is(budget) = unsigned_at(words, 6) else {
-        return TableArguments::Not;
-    };
-    TableArguments::Is(TableQuestion {
-        map: Map { centre, radius },
-        start,
-        budget,
+// The words between the kind and the lengths of the tables. A map is read here as for each kind that has one: `questions` lies below `storage`, and cannot.
+fn arguments(words: &[i64]) -> Option<TableQuestion> {
+    Some(TableQuestion {
+        map: Map {
+            centre: tile_at(words, 1, 2)?,
+            radius: argument_at(words, 3)?,
+        },
+        start: tile_at(words, 4, 5)?,
+        budget: argument_at(words, 6)?,
     })
 }
 
@@ -141,15 +90,17 @@ fn riding_range(
     totals: &mut [u32],
     numbers: &mut [i64],
 ) -> Laid
-    requires efforts_len_bound { length efforts.now ≤ 1024 }
-    requires totals_len_bound { length totals.old ≤ 1024 }
-    ensures { Says (9 + length efforts.now) (length totals.old + 1) result }
+    ensures { Says (9 + length efforts.now) (length totals.old + 1) (Some result) }
 {
     let TableQuestion { map, start, budget } = question;
-    let number = field_of_movement::riding_range(map, efforts, start, budget, totals);
-    put(numbers, 0, number as i64);
-    totals::lay_totals(totals, numbers);
-    Laid::Numbers(HEAD + efforts.len(), totals.len() + 1)
+    let answer = field_of_movement::riding_range(map, efforts, start, budget, totals);
+    let (number, ()) = told(answer, ());
+    put(numbers, 0, number);
+    lay_entries(totals, 1, numbers);
+    Laid {
+        took: HEAD + efforts.len(),
+        length: totals.len() + 1,
+    }
 }
 
 // 31 map x y budget efforts totals effort.. total.. | refusal index
@@ -159,18 +110,23 @@ fn totals_check(
     efforts: &[u16],
     totals: &mut [u32],
     numbers: &mut [i64],
-) -> Laid
-    requires efforts_len_bound { length efforts.now ≤ 1024 }
-    requires totals_len_bound { length totals.old ≤ 1024 }
+) -> Option<Laid>
     ensures { Says (9 + length efforts.now + length totals.old) 2 result }
 {
-    if !totals::read_totals(words, HEAD + efforts.len(), totals) {
-        return Laid::Unreadable;
+    if !read_entries(words, HEAD + efforts.len(), totals) {
+        return None;
     }
     let TableQuestion { map, start, budget } = question;
     let verdict = field_of_movement::check_totals(map, efforts, start, budget, totals);
-    let broken = verdict.broken;
-    put(numbers, 0, verdict.number as i64);
-    put(numbers, 1, broken.0 as i64);
-    Laid::Numbers(HEAD + efforts.len() + totals.len(), 2)
+    let (number, broken) = match verdict {
+        Ok(()) => (0, Index(0)),
+        Err(Fault::Refused(refusal)) => (refusal.number(), Index(0)),
+        Err(Fault::NotRight(index)) => (9, index),
+    };
+    put(numbers, 0, i64::from(number));
+    put(numbers, 1, i64::from(broken.0));
+    Some(Laid {
+        took: HEAD + efforts.len() + totals.len(),
+        length: 2,
+    })
 }

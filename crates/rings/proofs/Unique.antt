@@ -3,15 +3,15 @@ use mathlib.Core.Path.{◌≡◌, sym, ◌∙◌}
 use mathlib.Core.List.{List}
 use Prim.Native.Nat.{ℕ}
 use lib.IntN.{ℤ}
+use Rattle.hexes.specs.Answers.{Answer}
 use Rattle.hexes.specs.declared.Tile.{Tile}
 use Rattle.runs.specs.Runs.{Lists}
-use Rattle.runs.specs.declared.ListAnswer.{ListAnswer}
 use Rattle.runs.proofs.Unique.{lists_unique}
 use Rattle.rings.specs.Counts.{ring_count, wedge_count}
 use Rattle.rings.specs.Judged.{refusal_of}
 use Rattle.rings.specs.Rings.{ring, edge, spiral, wedge, corner_wedge}
 
-module _ (entry : List ℤ) (r s : ListAnswer) (x y : List ℤ) (c : Tile) where
+module _ (entry : List ℤ) (r s : Answer ℕ) (x y : List ℤ) (c : Tile) where
   pub ring_unique : (n d sense : ℕ) → Lists (refusal_of c n n d sense) (ring c d sense n) entry r x → Lists (refusal_of c n n d sense) (ring c d sense n) entry s y → (r ≡ s) × (x ≡ y)
   ring_unique n d sense = lists_unique _ _ entry r s x y
 

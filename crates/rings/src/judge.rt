@@ -1,28 +1,35 @@
 // The judgement of a listing's arguments.
 
 ghost use Rattle.std.specs.Prelude.{◌≡◌};
+ghost use Rattle.hexes.specs.Answers.{number_told};
 ghost use Rattle.rings.specs.Judged.{refusal_of};
 
-use hexes::{Tile, limits, refusals};
+use hexes::{Refusal, Tile, limits};
 
-// The lowest refusal number that the arguments of a listing give, or 0. A direction is also a vertex, which has the same six numbers.
-pub(crate) fn refusal_of(centre: Tile, first: u32, last: u32, direction: u32, sense: u32) -> u32
-    ensures { result ≡ refusal_of centre first last direction sense }
+// The refusal with the lowest number that the arguments of a listing give. A direction is also a vertex, which has the same six numbers.
+pub(crate) fn judge(
+    centre: Tile,
+    first: u32,
+    last: u32,
+    direction: u32,
+    sense: u32,
+) -> Result<(), Refusal>
+    ensures { number_told result ≡ refusal_of centre first last direction sense }
 {
     if !hexes::within_limit(centre) {
-        return refusals::BEYOND_LIMIT;
+        return Err(Refusal::BeyondLimit);
     }
     if first > limits::RANGE {
-        return refusals::TOO_LARGE;
+        return Err(Refusal::TooLarge);
     }
     if last > limits::RANGE {
-        return refusals::TOO_LARGE;
+        return Err(Refusal::TooLarge);
     }
     if direction > 5 {
-        return refusals::UNKNOWN_NUMBER;
+        return Err(Refusal::UnknownNumber);
     }
     if sense > 1 {
-        return refusals::UNKNOWN_NUMBER;
+        return Err(Refusal::UnknownNumber);
     }
-    0
+    Ok(())
 }

@@ -3,7 +3,6 @@
 
 #![tactic(auto)]
 
-mod count;
 mod figure;
 mod judge;
 mod write;
@@ -15,8 +14,7 @@ ghost use Rattle.rings.specs.Judged.{refusal_of};
 ghost use Rattle.rings.specs.Rings.{ring, edge, spiral, wedge, corner_wedge};
 
 use figure::{Figure, Shape};
-use hexes::{Direction, Tile};
-use runs::ListAnswer;
+use hexes::{Direction, Refusal, Tile};
 
 // The ring of a range round a centre, from a direction on.
 pub fn ring(
@@ -25,14 +23,20 @@ pub fn ring(
     direction: Direction,
     sense: u32,
     run: &mut [i32],
-) -> ListAnswer
+) -> Result<u32, Refusal>
     ensures { Lists (refusal_of centre range range direction.0 sense) (ring centre direction.0 sense range) run.old result run.new }
 {
     spiral(centre, range, range, direction, sense, run)
 }
 
 // The edge of a range at a vertex.
-pub fn ring_edge(centre: Tile, range: u32, vertex: u32, sense: u32, run: &mut [i32]) -> ListAnswer
+pub fn ring_edge(
+    centre: Tile,
+    range: u32,
+    vertex: u32,
+    sense: u32,
+    run: &mut [i32],
+) -> Result<u32, Refusal>
     ensures { Lists (refusal_of centre range range vertex sense) (edge centre vertex sense range) run.old result run.new }
 {
     wedge(centre, range, range, vertex, sense, run)
@@ -46,7 +50,7 @@ pub fn wedge(
     vertex: u32,
     sense: u32,
     run: &mut [i32],
-) -> ListAnswer
+) -> Result<u32, Refusal>
     ensures { Lists (refusal_of centre first last vertex sense) (wedge centre first last vertex sense) run.old result run.new }
 {
     let figure = Figure {
@@ -64,7 +68,7 @@ pub fn corner_wedge(
     last: u32,
     direction: Direction,
     run: &mut [i32],
-) -> ListAnswer
+) -> Result<u32, Refusal>
     ensures { Lists (refusal_of centre first last direction.0 0) (corner_wedge centre first last direction.0) run.old result run.new }
 {
     let d = direction.0;
@@ -84,7 +88,7 @@ pub fn spiral(
     direction: Direction,
     sense: u32,
     run: &mut [i32],
-) -> ListAnswer
+) -> Result<u32, Refusal>
     ensures { Lists (refusal_of centre first last direction.0 sense) (spiral centre first last direction.0 sense) run.old result run.new }
 {
     let d = direction.0;

@@ -9,9 +9,8 @@ ghost use Rattle.rings.specs.Rings.{along};
 ghost use Rattle.rings.specs.Leaves.{Near, centre_reach, corner_reach, tiles_from, leg_tiles, figure_at, figures, LegFits, Fits};
 
 use crate::figure::{Figure, Leg};
-use crate::{count, figure, judge};
-use hexes::{Direction, Tile, refusals};
-use runs::ListAnswer;
+use crate::judge::judge;
+use hexes::{Direction, Refusal, Tile};
 
 // z + k·s in one coordinate. All of the signed arithmetic is here.
 fn reached(z: i32, s: i32, k: u32) -> i32
@@ -43,77 +42,69 @@ fn put_tiles(run: &mut [i32], at: usize, from: Tile, direction: u32, skip: u32, 
     requires count_in_bounds { at + 2 * length (tiles_from from direction skip count) ≤ length run.old }
     ensures { Laid run.old at (tiles_from from direction skip count) result run.new }
 {
-    let mut k: u32 = 0;
     let mut next = at;
-    while k < count {
+    for k in 0..count {
         let tile = moved(from, direction, skip + k);
         next = runs::put(run, next, tile);
-        k += 1;
     }
     next
 }
 
-// A leg at a range round a centre.
-fn put_leg(run: &mut [i32], at: usize, centre: Tile, range: u32, leg: Leg) -> usize
-    requires near { Near centre centre_reach }
-    requires range_le_range_limit { range ≤ range_limit }
-    requires leg_fits { LegFits leg }
-    requires leg_in_bounds { at + 2 * length (leg_tiles centre range leg) ≤ length run.old }
-    ensures { Laid run.old at (leg_tiles centre range leg) result run.new }
-{
-    let corner = moved(centre, leg.out, range);
-    put_tiles(
-        run,
-        at,
-        corner,
-        leg.out + 2 + 2 * leg.sense,
-        leg.skip,
-        leg.count,
-    )
-}
-
-// A figure at a range.
-fn put_figure(run: &mut [i32], at: usize, centre: Tile, range: u32, figure: Figure) -> usize
-    requires near { Near centre centre_reach }
-    requires range_le_range_limit { range ≤ range_limit }
-    requires fits { Fits figure }
-    requires range_in_bounds { at + 2 * length (figure_at figure centre range) ≤ length run.old }
-    ensures { Laid run.old at (figure_at figure centre range) result run.new }
-{
-    let shape = figure.shape;
-    let legs = figure::legs_of(shape);
-    let mut i: u32 = 0;
-    let mut next = at;
-    while i < legs {
-        let leg = figure::leg_at(figure, range, i);
-        next = put_leg(run, next, centre, range, leg);
-        i += 1;
-    }
-    next
-}
-
-// A figure at `count` ranges from `first` on.
-fn put_figures(
-    run: &mut [i32],
-    at: usize,
-    centre: Tile,
-    first: u32,
-    count: u32,
+// A figure round a centre, both of them judged. What is written is lent, and a place in it is handed on: a struct of both would hold a `&mut`, and each promise would speak of what lies behind it.
+#[derive(Clone, Copy)]
+struct Placed {
     figure: Figure,
-) -> usize
-    requires near { Near centre centre_reach }
-    requires count_bound { first + count ≤ range_limit + 1 }
-    requires fits { Fits figure }
-    requires count_in_bounds { at + 2 * length (figures figure centre first count) ≤ length run.old }
-    ensures { Laid run.old at (figures figure centre first count) result run.new }
-{
-    let mut k: u32 = 0;
-    let mut next = at;
-    while k < count {
-        next = put_figure(run, next, centre, first + k, figure);
-        k += 1;
+    centre: Tile,
+    ghost near: { Near centre centre_reach },
+    ghost fits: { Fits figure },
+}
+
+impl Placed {
+    // Writes one leg of the figure at a range.
+    fn put_leg(self, run: &mut [i32], at: usize, range: u32, leg: Leg) -> usize
+        requires range_le_range_limit { range ≤ range_limit }
+        requires leg_fits { LegFits leg }
+        requires leg_in_bounds { at + 2 * length (leg_tiles self.centre range leg) ≤ length run.old }
+        ensures { Laid run.old at (leg_tiles self.centre range leg) result run.new }
+    {
+        let corner = moved(self.centre, leg.out, range);
+        put_tiles(
+            run,
+            at,
+            corner,
+            leg.out + 2 + 2 * leg.sense,
+            leg.skip,
+            leg.count,
+        )
     }
-    next
+
+    // Writes the figure at a range.
+    fn put_at(self, run: &mut [i32], at: usize, range: u32) -> usize
+        requires range_le_range_limit { range ≤ range_limit }
+        requires range_in_bounds { at + 2 * length (figure_at self.figure self.centre range) ≤ length run.old }
+        ensures { Laid run.old at (figure_at self.figure self.centre range) result run.new }
+    {
+        let figure = self.figure;
+        let mut next = at;
+        for i in 0..figure.shape.legs() {
+            let leg = figure.leg_at(range, i);
+            next = self.put_leg(run, next, range, leg);
+        }
+        next
+    }
+
+    // Writes the figure at `count` ranges from `first` on.
+    fn put(self, run: &mut [i32], at: usize, first: u32, count: u32) -> usize
+        requires count_bound { first + count ≤ range_limit + 1 }
+        requires count_in_bounds { at + 2 * length (figures self.figure self.centre first count) ≤ length run.old }
+        ensures { Laid run.old at (figures self.figure self.centre first count) result run.new }
+    {
+        let mut next = at;
+        for k in 0..count {
+            next = self.put_at(run, next, first + k);
+        }
+        next
+    }
 }
 
 // How many ranges there are from first to last: none if first is above last.
@@ -131,19 +122,16 @@ pub(crate) fn listed(
     first: u32,
     last: u32,
     run: &mut [i32],
-) -> ListAnswer
+) -> Result<u32, Refusal>
     ensures { Lists (refusal_of centre first last figure.direction figure.sense) (figures figure centre first (last + 1 - first)) run.old result run.new }
 {
-    let number = judge::refusal_of(centre, first, last, figure.direction, figure.sense);
-    if number != 0 {
-        return ListAnswer::Refused(number);
-    }
+    judge(centre, first, last, figure.direction, figure.sense)?;
     let count = ranges_of(first, last);
-    let shape = figure.shape;
-    let tiles = count::tiles_of(shape, first, count);
+    let tiles = figure.shape.tiles_of(first, count);
     if run.len() < 2 * (tiles as usize) {
-        return ListAnswer::Refused(refusals::RUN_TOO_SHORT);
+        return Err(Refusal::RunTooShort);
     }
-    put_figures(run, 0, centre, first, count, figure);
-    ListAnswer::Listed(tiles)
+    let placed = Placed { figure, centre };
+    placed.put(run, 0, first, count);
+    Ok(tiles)
 }

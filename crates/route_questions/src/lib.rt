@@ -6,23 +6,20 @@
 
 mod laying;
 
-ghost use Rattle.std.specs.Prelude.{◌+◌, ◌*◌, ◌≤◌, length};
+ghost use Rattle.std.specs.Prelude.{◌+◌, ◌*◌, length, Some};
 ghost use Rattle.route_questions.specs.Taking.{Says, TakesOf, TakesRoute};
 
 use hexes::Tile;
-use questions::answer::Laid;
-use questions::arguments::{TileArgument, UnsignedArgument, tile_at, unsigned_at};
-use questions::efforts::read_efforts;
+use questions::answer::{Laid, lay_entries, lay_head};
+use questions::arguments::{argument_at, tile_at};
+use questions::entries::read_entries;
 use storage::Map;
 
-// The kind of the question.
+// The kind of the question, a number of the file format.
 const ROUTE: u32 = 40;
 
 // How many words stand before the efforts, the kind included.
 const HEAD: usize = 11;
-
-// Where the first effort stands.
-const FIRST_EFFORT: u32 = HEAD as u32;
 
 // How many entries a table, or the run, has at most.
 const ROOM: usize = 1024;
@@ -34,72 +31,32 @@ const UNRANKED: u64 = 7777;
 const UNTOUCHED: i32 = -7;
 
 // The arguments before the lengths.
-#[derive(Clone, Copy)]
+#[derive(Clone, Copy, Debug, PartialEq, Eq)]
 struct RouteQuestion {
     map: Map,
     start: Tile,
     end: Tile,
 }
 
-// Seven words as the arguments before the lengths.
-#[derive(Clone, Copy)]
-enum RouteArguments {
-    Is(RouteQuestion),
-    Not,
-}
-
 // Asks the route that the words begin with, and lays out its answer.
-pub fn answered(kind: u32, words: &[i64], numbers: &mut [i64]) -> Laid
+// Tables and a run of the lengths that it names are lent to it, unless one has more entries than there is room for.
+pub fn answered(kind: u32, words: &[i64], numbers: &mut [i64]) -> Option<Laid>
     ensures { TakesRoute kind words.now result }
 {
     if kind != ROUTE {
-        return Laid::Unreadable;
+        return None;
     }
-    let UnsignedArgument::Is(effort_count) = unsigned_at(words, 8) else {
-        return Laid::Unreadable;
-    };
-    let UnsignedArgument::Is(rank_count) = unsigned_at(words, 9) else {
-        return Laid::Unreadable;
-    };
-    let UnsignedArgument::Is(entry_count) = unsigned_at(words, 10) else {
-        return Laid::Unreadable;
-    };
-    lent(
-        words,
-        effort_count as usize,
-        rank_count as usize,
-        entry_count as usize,
-        numbers,
-    )
-}
-
-// Lends tables and a run of these lengths to the question, unless one has more entries than there is room for.
-fn lent(
-    words: &[i64],
-    effort_count: usize,
-    rank_count: usize,
-    entry_count: usize,
-    numbers: &mut [i64],
-) -> Laid
-    ensures { TakesOf effort_count rank_count entry_count result }
-{
-    if effort_count > ROOM {
-        return Laid::Unreadable;
-    }
-    if rank_count > ROOM {
-        return Laid::Unreadable;
-    }
-    if entry_count > ROOM {
-        return Laid::Unreadable;
-    }
+    let effort_count = argument_at::<u32>(words, 8)? as usize;
+    let rank_count = argument_at::<u32>(words, 9)? as usize;
+    let entry_count = argument_at::<u32>(words, 10)? as usize;
     let mut efforts = [0u16; ROOM];
     let mut ranks = [UNRANKED; ROOM];
     let mut run = [UNTOUCHED; ROOM];
     laid(
         words,
-        &mut efforts[..effort_count],
-        &mut ranks[..rank_count],
-        &mut run[..entry_count],
+        efforts.get_mut(..effort_count)?,
+        ranks.get_mut(..rank_count)?,
+        run.get_mut(..entry_count)?,
         numbers,
     )
 }
@@ -111,39 +68,25 @@ fn laid(
     ranks: &mut [u64],
     run: &mut [i32],
     numbers: &mut [i64],
-) -> Laid
-    requires efforts_len_bound { length efforts.old ≤ 1024 }
-    requires ranks_len_bound { length ranks.old ≤ 1024 }
-    requires run_len_bound { length run.old ≤ 1024 }
+) -> Option<Laid>
     ensures { TakesOf (length efforts.old) (length ranks.old) (length run.old) result }
 {
-    let RouteArguments::Is(question) = arguments(words) else {
-        return Laid::Unreadable;
-    };
-    if !read_efforts(words, FIRST_EFFORT, efforts) {
-        return Laid::Unreadable;
+    let question = arguments(words)?;
+    if !read_entries(words, HEAD, efforts) {
+        return None;
     }
-    asked(question, efforts, ranks, run, numbers)
+    Some(asked(question, efforts, ranks, run, numbers))
 }
 
-// The words between the kind and the lengths.
-fn arguments(words: &[i64]) -> RouteArguments {
-    let TileArgument::Is(centre) = tile_at(words, 1, 2) else {
-        return RouteArguments::Not;
-    };
-    let UnsignedArgument::Is(radius) = unsigned_at(words, 3) else {
-        return RouteArguments::Not;
-    };
-    let TileArgument::Is(start) = tile_at(words, 4, 5) else {
-        return RouteArguments::Not;
-    };
-    let TileArgument::Is(end) = tile_at(words, 6, 7) else {
-        return RouteArguments::Not;
-    };
-    RouteArguments::Is(RouteQuestion {
-        map: Map { centre, radius },
-        start,
-        end,
+// The words between the kind and the lengths. A map is read here as for each kind that has one: `questions` lies below `storage`, and cannot.
+fn arguments(words: &[i64]) -> Option<RouteQuestion> {
+    Some(RouteQuestion {
+        map: Map {
+            centre: tile_at(words, 1, 2)?,
+            radius: argument_at(words, 3)?,
+        },
+        start: tile_at(words, 4, 5)?,
+        end: tile_at(words, 6, 7)?,
     })
 }
 
@@ -155,17 +98,15 @@ fn asked(
     run: &mut [i32],
     numbers: &mut [i64],
 ) -> Laid
-    requires efforts_len_bound { length efforts.now ≤ 1024 }
-    requires ranks_len_bound { length ranks.old ≤ 1024 }
-    requires run_len_bound { length run.old ≤ 1024 }
-    ensures { Says (11 + length efforts.now) (2 + length run.old + 2 * length ranks.old) result }
+    ensures { Says (11 + length efforts.now) (2 + length run.old + 2 * length ranks.old) (Some result) }
 {
     let RouteQuestion { map, start, end } = question;
-    laying::lay_head(
-        pathfinding::route(map, efforts, start, end, ranks, run),
-        numbers,
-    );
-    laying::lay_run(run, numbers);
+    let answer = pathfinding::route(map, efforts, start, end, ranks, run);
+    lay_head(answer, numbers);
+    lay_entries(run, 2, numbers);
     laying::lay_ranks(ranks, 2 + run.len(), numbers);
-    Laid::Numbers(HEAD + efforts.len(), 2 + run.len() + 2 * ranks.len())
+    Laid {
+        took: HEAD + efforts.len(),
+        length: 2 + run.len() + 2 * ranks.len(),
+    }
 }

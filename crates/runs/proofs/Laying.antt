@@ -35,7 +35,7 @@ laid_then entry at l t {j} {next} {run} {exit} h a b =
           ∙ ap (written entry at) (sym (entries_append l t));
     }
 
--- A loop that lays the n pieces of f: at its start, what a turn asks, after a turn, and at its end.
+-- A loop that lays the n pieces of f: at its start, what a turn asks, and after a turn.
 module _ (f : ℕ → List Tile) (n : ℕ) (entry : List ℤ) (at : ℕ) where
   pub laid_none : Laid entry at (gather f 0) at entry
   unfolding entries
@@ -50,6 +50,3 @@ module _ (f : ℕ → List Tile) (n : ℕ) (entry : List ℤ) (at : ℕ) where
 
   pub laid_turn : (k : ℕ) {j next : ℕ} {run exit : List ℤ} → k < n → at + 2 * length (gather f n) ≤ length entry → Laid entry at (gather f k) j run → Laid run j (f k) next exit → Laid entry at (gather f (k + 1)) next exit
   laid_turn k {j} h r a b = rw (gather_more f k) (laid_then entry at (gather f k) (f k) (omega (arith, a.goes, gather_room f k n h)) a b)
-
-  pub laid_all : {k j : ℕ} {run : List ℤ} → k ≡ n → Laid entry at (gather f k) j run → Laid entry at (gather f n) j run
-  laid_all {k} {j} {run} e a = subst (λ (i : ℕ). Laid entry at (gather f i) j run) e a

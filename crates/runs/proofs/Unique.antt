@@ -6,33 +6,24 @@ use native.Mathlib.Decide.{dec_le}
 use native.Mathlib.Omega.{arith}
 use lib.IntN.{ℤ}
 use lib.ListN.{length}
-use Rattle.hexes.specs.Answers.{Answer, found, refusal}
+use Rattle.std.specs.Prelude.{Ok}
+use Rattle.hexes.specs.Answers.{Answer}
 use Rattle.hexes.specs.declared.Tile.{Tile}
-use Rattle.hexes.proofs.Tells.{one_value, enum_tells_one}
-use Rattle.runs.specs.Runs.{entries, written, list_answer, listing, Lists, Put}
-use Rattle.runs.specs.declared.ListAnswer.{ListAnswer}
+use Rattle.hexes.proofs.Tells.{one_value, tells_one}
+use Rattle.runs.specs.Runs.{entries, written, listing, Lists, Put}
 use Rattle.runs.proofs.Ending.{listed_all}
 
-list_back : Answer ℕ → ListAnswer
-list_back (found n) = ListAnswer.Listed n
-list_back (refusal n) = ListAnswer.Refused n
-
-list_back_is : (r : ListAnswer) → list_back (list_answer r) ≡ r
-unfolding list_back
-list_back_is (ListAnswer.Listed n) = refl
-list_back_is (ListAnswer.Refused n) = refl
-
-pub lists_unique : (number : ℕ) (tiles : List Tile) (entry : List ℤ) (r s : ListAnswer) (x y : List ℤ) → Lists number tiles entry r x → Lists number tiles entry s y → (r ≡ s) × (x ≡ y)
+pub lists_unique : (number : ℕ) (tiles : List Tile) (entry : List ℤ) (r s : Answer ℕ) (x y : List ℤ) → Lists number tiles entry r x → Lists number tiles entry s y → (r ≡ s) × (x ≡ y)
 lists_unique number tiles entry r s x y p q = (
-  enum_tells_one 0 list_answer list_back list_back_is _ (one_value (listing number tiles (length entry))) r s p.told q.told,
+  tells_one 0 _ (one_value (listing number tiles (length entry))) r s p.told q.told,
   p.holds ∙ sym q.holds,
 )
 
 -- So a call that lists cannot refuse, answer another number, or write nothing or too much, where its arguments are fine and there is room.
-pub must_list : (tiles : List Tile) (entry : List ℤ) (r : ListAnswer) (exit : List ℤ) → 2 * length tiles ≤ length entry → Lists 0 tiles entry r exit → (r ≡ ListAnswer.Listed (length tiles)) × (exit ≡ written entry 0 (entries tiles))
+pub must_list : (tiles : List Tile) (entry : List ℤ) (r : Answer ℕ) (exit : List ℤ) → 2 * length tiles ≤ length entry → Lists 0 tiles entry r exit → (r ≡ Ok (length tiles)) × (exit ≡ written entry 0 (entries tiles))
 must_list tiles entry r exit room h =
-    lists_unique 0 tiles entry r (ListAnswer.Listed (length tiles)) exit (written entry 0 (entries tiles)) h
-    (listed_all 0 tiles entry {next = 0 + 2 * length tiles} refl refl refl room (record { goes = refl; holds = refl }))
+    lists_unique 0 tiles entry r (Ok (length tiles)) exit (written entry 0 (entries tiles)) h
+    (listed_all 0 tiles entry {next = 0 + 2 * length tiles} refl refl room (record { goes = refl; holds = refl }))
 
 pub put_unique : (entry : List ℤ) (at : ℕ) (tile : Tile) (m n : ℕ) (x y : List ℤ) → Put entry at tile m x → Put entry at tile n y → (m ≡ n) × (x ≡ y)
 put_unique entry at tile m n x y p q = go (dec_le (at + 2) (length entry))

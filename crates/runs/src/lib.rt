@@ -1,17 +1,10 @@
-// A list of tiles in a lent run: what every call that lists answers, and the one function that writes a tile.
+// A list of tiles in a lent run: the one function that writes a tile. What every call that lists promises, whatever it lists, stands in `specs/Runs`.
 
 #![tactic(auto)]
 
 ghost use Rattle.runs.specs.Runs.{Put};
 
 use hexes::Tile;
-
-// The number of tiles that were listed, or the number of a refusal.
-#[derive(Clone, Copy)]
-pub enum ListAnswer {
-    Listed(u32),
-    Refused(u32),
-}
 
 // Writes a tile's x and y from place `at` on, and answers the place behind them. Where the run has no room for both it is left as it is, and so is the place.
 pub fn put(run: &mut [i32], at: usize, tile: Tile) -> usize

@@ -1,17 +1,14 @@
 -- Laws of what stands beside a tile of a map: a step moves an index by the same number wherever it is made, and by at most one turn where it stays on the map.
 use mathlib.Core.Path.{◌≡◌, refl, sym, ap, ◌∙◌}
-use mathlib.Core.Bool.{Bool, true, false}
-use mathlib.Core.List.{List}
-use Prim.Native.Nat.{ℕ, zero, suc, ◌+◌, ◌*◌, ◌<◌, ◌≤◌}
+use mathlib.Core.Bool.{Bool, true, false, cond}
+use Rattle.std.specs.Prelude.{None, Some}
+use Prim.Native.Nat.{ℕ, zero, suc, ◌*◌, ◌^◌, ◌<◌, ◌≤◌}
 use native.Mathlib.Nat.{mul-le-mul_left}
-use native.Mathlib.Decide.{ℕ_discrete}
 use native.Mathlib.Omega.{arith}
 use lib.IntN.{ℤ, pos, nat_abs, ◌+ℤ◌, ◌-ℤ◌, ◌*ℤ◌}
-use lib.ListN.{length, get_or, set, length-set}
-use lib.Seq.{get_or-set_same, get_or-set_other}
 use borrow.Author.Tests.{le-leb, leb-true}
 use Rattle.whole.specs.Euclid.{quotient, remainder}
-use Rattle.whole.proofs.Differences.{by1, by2, by3, by6, linear, d_mul}
+use Rattle.whole.proofs.Differences.{by3, by6, linear, d_mul}
 use Rattle.whole.proofs.Euclid.{euclid, remainder_turn}
 use Rattle.whole.proofs.Kit.{dif_b}
 use Rattle.hexes.specs.Directions.{step_of}
@@ -19,13 +16,14 @@ use Rattle.hexes.specs.Limits.{coordinate_limit, radius_limit}
 use Rattle.hexes.specs.Tiles.{neighbor_of, distance_of}
 use Rattle.hexes.specs.declared.Tile.{Tile}
 use Rattle.hexes.proofs.Metric.{triangle, zero_same, same_zero, neighbor_at_one, step_small}
-use Rattle.storage.specs.Hexmod.{shift_of, index_in}
-use Rattle.storage.specs.Leaves.{Inside, beside_in, farthest, stride_of}
-use Rattle.storage.specs.Maps.{map_refusal, of_map, area_of}
-use Rattle.storage.specs.Neighbors.{no_index}
+use Rattle.storage.specs.Hexmod.{shift_of, index_in, index_of}
+use Rattle.storage.specs.Leaves.{Inside, beside_at, no_index, number_or_none, beside_in, stride_of}
+use Rattle.storage.specs.Maps.{of_map, area_of}
 use Rattle.storage.specs.declared.Map.{Map}
+use Rattle.storage.specs.declared.map_tile.MapTile.{MapTile}
 use Rattle.storage.proofs.Back.{index_below}
-use Rattle.storage.proofs.Maps.{fine, area_small, disc_of}
+use Rattle.storage.proofs.Maps.{area_small, disc_of}
+use Rattle.storage.proofs.Reckoned.{times, sum_size}
 
 -- (y + v - c) + s (x + u - b) is i + (v + s u) and whole turns, if (y - c) + s (x - b) is i and whole turns.
 moved : (a s i : ℕ) (x y q u v b c : ℤ) → pos a *ℤ q +ℤ pos i ≡ (y -ℤ c) +ℤ pos s *ℤ (x -ℤ b)
@@ -69,26 +67,22 @@ module _ (map : Map) (t : Tile) (d : ℕ) where
 -- So the stride is at most one turn.
 pub stride_small : (r d : ℕ) → 0 < r → nat_abs (stride_of r d) ≤ area_of r
 unfolding stride_of
-stride_small r d h = go r (step_of d).0 (step_of d).1 h (step_small d).0 (step_small d).1
+stride_small r d h =
+    let s = step_of d in
+    let small = step_small d in
+    omega (arith, sum_size 1 (shift_of r * 1) s.1 (pos (shift_of r) *ℤ s.0) small.1 (times (shift_of r) 1 s.0 small.0), mul-le-mul_left r h)
+
+-- A tile of a map is within reach of the coordinate limit, so 32 bits hold its neighbour.
+pub next_near : (h : MapTile) (d : ℕ) → (nat_abs (neighbor_of h.tile d).x < 2 ^ 31) × (nat_abs (neighbor_of h.tile d).y < 2 ^ 31)
+unfolding neighbor_of
+next_near h d =
+    let f = h.fine in
+    let disc = disc_of f.map h.tile h.of in
+    let s = step_small d in
+    (go h.tile.x f.map.centre.x (step_of d).0 f.near_x (omega (arith, disc.disc_x, f.small)) s.0, go h.tile.y f.map.centre.y (step_of d).1 f.near_y (omega (arith, disc.disc_y, f.small)) s.1)
   where
-    times : (s : ℕ) (x : ℤ) → nat_abs x ≤ 1 → nat_abs (pos s *ℤ x) ≤ s
-    times s = by1 _ (λ a b. simp (dif_b, d_mul) (λ k. omega (arith, mul-le-mul_left s k.0, mul-le-mul_left s k.1)))
-
-    bound : {s a : ℕ} (y z : ℤ) → nat_abs y ≤ 1 → nat_abs z ≤ s → s + 1 ≤ a → nat_abs (y +ℤ z) ≤ a
-    bound = by2 _ (simp dif_b (omega arith))
-
-    go : (r : ℕ) (x y : ℤ) → 0 < r → nat_abs x ≤ 1 → nat_abs y ≤ 1 → nat_abs (y +ℤ pos (shift_of r) *ℤ x) ≤ area_of r
-    go r x y h p q = bound y (pos (shift_of r) *ℤ x) q (times (shift_of r) x p) (omega (arith, mul-le-mul_left r h))
-
--- A tile of a map is within reach of the coordinate limit.
-pub not_far : (map : Map) (t : Tile) → map_refusal map ≡ 0 → of_map map t ≡ true → (nat_abs t.x ≤ farthest) × (nat_abs t.y ≤ farthest)
-not_far map t z h =
-    let f = fine map z in
-    let d = disc_of map t h in
-    (go t.x map.centre.x f.near_x (omega (arith, d.disc_x, f.small)), go t.y map.centre.y f.near_y (omega (arith, d.disc_y, f.small)))
-  where
-    go : (z c : ℤ) → nat_abs c ≤ coordinate_limit → nat_abs (z -ℤ c) ≤ radius_limit → nat_abs z ≤ farthest
-    go = by2 _ (simp dif_b (omega arith))
+    go : (z c s : ℤ) → nat_abs c ≤ coordinate_limit → nat_abs (z -ℤ c) ≤ radius_limit → nat_abs s ≤ 1 → nat_abs (z +ℤ s) < 2 ^ 31
+    go = by3 _ (simp dif_b (omega arith))
 
 -- A tile that does not lie on the rim has all its neighbours on the map.
 pub inside_stays : (map : Map) (t : Tile) (d : ℕ) → Inside map t → true ≡ of_map map (neighbor_of t d)
@@ -97,6 +91,23 @@ inside_stays map t d h = sym (le-leb (distance_of map.centre (neighbor_of t d)) 
 
 -- What an entry is, by whether the neighbour is of the map.
 module _ (map : Map) (t : Tile) (d : ℕ) where
+  pub at_off : of_map map (neighbor_of t d) ≡ false → None ≡ beside_at map t d
+  unfolding beside_at
+  at_off e = rw e
+
+  pub at_on : of_map map (neighbor_of t d) ≡ true → Some (index_of map (neighbor_of t d)) ≡ beside_at map t d
+  unfolding beside_at
+  at_on e = rw e
+
+  -- Its number is the one that the theories reckon with.
+  pub number_beside : number_or_none (beside_at map t d) ≡ beside_in map t d
+  unfolding beside_at beside_in
+  number_beside = go (of_map map (neighbor_of t d))
+    where
+      go : (b : Bool) → number_or_none (cond b (Some (index_of map (neighbor_of t d))) None) ≡ cond b (index_in map (neighbor_of t d)) no_index
+      go true = refl
+      go false = refl
+
   pub beside_off : of_map map (neighbor_of t d) ≡ false → no_index ≡ beside_in map t d
   unfolding beside_in
   beside_off e = rw e
@@ -110,29 +121,9 @@ module _ (map : Map) (t : Tile) (d : ℕ) (small : map.radius ≤ radius_limit) 
   below_none : index_in map (neighbor_of t d) < no_index
   below_none = omega (arith, area_small map.radius small, index_below map (neighbor_of t d))
 
-  by_test : (b : Bool) → of_map map (neighbor_of t d) ≡ b → beside_in map t d ≡ no_index → of_map map (neighbor_of t d) ≡ false
-  by_test true e h = absurd (omega (arith, beside_on map t d e, below_none))
-  by_test false e h = e
-
-  pub none_off : beside_in map t d ≡ no_index → of_map map (neighbor_of t d) ≡ false
-  none_off = by_test (of_map map (neighbor_of t d)) refl
-
   found_test : (b : Bool) → of_map map (neighbor_of t d) ≡ b → (beside_in map t d ≡ no_index → ⊥) → of_map map (neighbor_of t d) ≡ true
   found_test true e h = e
   found_test false e h = absurd (h (sym (beside_off map t d e)))
 
   pub some_on : (beside_in map t d ≡ no_index → ⊥) → of_map map (neighbor_of t d) ≡ true
   some_on = found_test (of_map map (neighbor_of t d)) refl
-
--- A row of entries that is filled below k.
-pub record Filled (map : Map) (t : Tile) (k : ℕ) (entries : List ℕ) : Type 0 where
-  pub six : length entries ≡ 6
-  pub below : (d : ℕ) → d < k → get_or entries d 0 ≡ beside_in map t d
-
-pub filled_next : (map : Map) (t : Tile) (k x : ℕ) (entries : List ℕ) → k < 6 → x ≡ beside_in map t k → Filled map t k entries → Filled map t (k + 1) (set entries k x)
-filled_next map t k x entries h e f =
-    record { six = length-set entries k x ∙ f.six; below = λ d l. go d l (ℕ_discrete d k) }
-  where
-    go : (d : ℕ) → d < k + 1 → Dec (d ≡ k) → get_or (set entries k x) d 0 ≡ beside_in map t d
-    go d l (yes p) = ap (λ (n : ℕ). get_or (set entries k x) n 0) p ∙ get_or-set_same entries k x 0 (omega (arith, f.six)) ∙ e ∙ ap (beside_in map t) (sym p)
-    go d l (no p) = get_or-set_other entries k d x 0 p ∙ f.below d (omega arith)

@@ -1,5 +1,6 @@
 -- What the proofs of this crate share, the facts beside its promises, and its uniqueness.
 pub mod Maps
+pub mod Reckoned
 pub mod Strips
 pub mod Back
 pub mod Besides

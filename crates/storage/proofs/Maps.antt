@@ -1,34 +1,21 @@
--- Laws of maps: which refusal each test leads to, what is known of a map that is fine, and which tiles are of a map.
-use mathlib.Core.Path.{◌≡◌}
-use mathlib.Core.Bool.{true, false}
-use Prim.Native.Nat.{ℕ, ◌+◌, ◌*◌, ◌≤◌, ◌<◌}
+-- Laws of maps: what is known of a map that is fine or that was judged, how many tiles it has, and which tiles are of it.
+use mathlib.Core.Path.{◌≡◌, sym, ap, ◌∙◌}
+use mathlib.Core.Bool.{true}
+use Prim.Native.Nat.{ℕ, ◌+◌, ◌*◌, ◌≤◌}
 use native.Mathlib.Nat.{mul-le-mul_right}
 use native.Mathlib.Omega.{arith}
-use borrow.Author.Tests.{eq-eqb, ne_eqb, le-leb, lt-leb, leb-true}
+use borrow.Author.Tests.{eq-eqb, ne_eqb, le-leb, leb-true}
 use lib.Dec.{leb}
 use lib.IntN.{nat_abs, ◌-ℤ◌}
 use Rattle.hexes.specs.Limits.{coordinate_limit, radius_limit}
-use Rattle.hexes.specs.Refusals.{beyond_limit, too_large}
 use Rattle.hexes.specs.Tiles.{distance_of, span, within_limit}
 use Rattle.hexes.specs.declared.Tile.{Tile}
 use Rattle.hexes.proofs.Chains.{passed}
-use Rattle.hexes.proofs.Limit.{within_is}
+use Rattle.hexes.proofs.Limit.{within, within_is}
 use Rattle.storage.specs.Maps.{map_refusal, of_map, area_of, tiles_of}
 use Rattle.storage.specs.declared.Map.{Map}
+use Rattle.storage.specs.declared.fine.FineMap.{FineMap}
 use Rattle.storage.proofs.Strips.{Disc}
-
-module _ (map : Map) where
-  pub centre_far : within_limit map.centre ≡ false → beyond_limit ≡ map_refusal map
-  unfolding map_refusal
-  centre_far w = rw w
-
-  pub radius_large : within_limit map.centre ≡ true → radius_limit < map.radius → too_large ≡ map_refusal map
-  unfolding map_refusal
-  radius_large w h = rw (w, lt-leb map.radius radius_limit h)
-
-  pub not_refused : within_limit map.centre ≡ true → map.radius ≤ radius_limit → 0 ≡ map_refusal map
-  unfolding map_refusal
-  not_refused w h = rw (w, le-leb map.radius radius_limit h)
 
 -- What holds of a map that is fine.
 pub record Fine (map : Map) : Type 0 where
@@ -43,6 +30,14 @@ fine map e =
     let b = passed (leb map.radius radius_limit) 1 0 a.1 in
     let l = within_is map.centre a.0 in
     record { near_x = l.0; near_y = l.1; small = leb-true _ _ b.0 }
+
+-- A map that was judged is fine.
+pub judged_fine : (f : FineMap) → map_refusal f.map ≡ 0
+unfolding map_refusal
+judged_fine f = rw (within f.map.centre f.near_x f.near_y, le-leb f.map.radius radius_limit f.small)
+
+pub fine_of : (f : FineMap) (map : Map) → f.map ≡ map → map_refusal map ≡ 0
+fine_of f map e = ap map_refusal (sym e) ∙ judged_fine f
 
 -- How many tiles a map has, by whether it is fine.
 pub tiles_refused : (map : Map) → (map_refusal map ≡ 0 → ⊥) → 0 ≡ tiles_of map

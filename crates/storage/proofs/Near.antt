@@ -6,6 +6,8 @@ use mathlib.Core.List.{List}
 use Prim.Native.Nat.{ℕ, ◌+◌, ◌%◌, ◌<◌, ◌≤◌}
 use native.Mathlib.Omega.{arith}
 use lib.ListN.{get_or}
+use Rattle.std.specs.Prelude.{Option, None, Some}
+use Rattle.std.proofs.lemmas.Option.{cond_some}
 use Rattle.hexes.specs.Answers.{Told, accepted, refused_tile}
 use Rattle.hexes.specs.Limits.{radius_limit}
 use Rattle.hexes.specs.Tiles.{neighbor_of, distance_of}
@@ -15,12 +17,13 @@ use Rattle.hexes.proofs.Metric.{neighbor_at_one}
 use Rattle.hexes.proofs.Tells.{One}
 use Rattle.hexes.proofs.Turning.{opposite_leads_back}
 use Rattle.storage.specs.Hexmod.{index, index_in, index_of, to_hexmod, FromHexmod}
-use Rattle.storage.specs.Leaves.{tile_at_index, beside_in, near_in}
+use Rattle.storage.specs.Leaves.{tile_at_index, beside_at, number_or_none, beside_in, near_in}
 use Rattle.storage.specs.Maps.{map_refusal, of_map, area_of}
 use Rattle.storage.specs.Neighbors.{SixNeighbors}
+use Rattle.storage.specs.declared.Index.{Index}
 use Rattle.storage.specs.declared.Map.{Map}
 use Rattle.storage.proofs.Back.{index_below, one_index, tile_of_map, tile_has_index, the_tile_of}
-use Rattle.storage.proofs.Besides.{beside_on, some_on}
+use Rattle.storage.proofs.Besides.{number_beside, beside_on, some_on}
 use Rattle.storage.proofs.Ending.{OneHas, from_fine}
 use Rattle.storage.proofs.Maps.{area_small}
 use Rattle.storage.proofs.Neighbors.{one_told, neighbor_found, entry_of_beside}
@@ -85,10 +88,21 @@ module _ (map : Map) (i : ℕ) (z : map_refusal map ≡ 0) (h : i < area_of map.
   unfolding One
   never_lost n l p = let k : n ≡ 0 = ap (λ (v : Told Tile). v.number) (one_told map (index i) _ _ p goes_back) in omega arith
 
--- The row of six has them.
-pub entries_near : (map : Map) (i : ℕ) (entries : List ℕ) → map_refusal map ≡ 0 → i < area_of map.radius → SixNeighbors map (index i) entries → (d : ℕ) → d < 6 → get_or entries d 0 ≡ near_in map i d
-unfolding near_in
-entries_near map i entries z h s d l =
-    let t = tile_at_index map i in
-    let k = neighbor_found map (index i) d t (goes_back map i z h) (to_hexmod map (neighbor_of t d)) refl in
-    s.each d l (to_hexmod map (neighbor_of t d)) k ∙ sym (entry_of_beside map t d z)
+-- The row of six has what stands beside the tile; read as numbers, what is near; and an entry that is an index is one of the map.
+module _ (map : Map) (i : ℕ) (entries : List (Option Index)) (z : map_refusal map ≡ 0) (h : i < area_of map.radius) (s : SixNeighbors map (index i) entries) (d : ℕ) (l : d < 6) where
+  entry_beside : get_or entries d None ≡ beside_at map (tile_at_index map i) d
+  entry_beside =
+      let t = tile_at_index map i in
+      let k = neighbor_found map (index i) d t (goes_back map i z h) (to_hexmod map (neighbor_of t d)) refl in
+      s.each d l (to_hexmod map (neighbor_of t d)) k ∙ sym (entry_of_beside map t d z)
+
+  pub entries_near : number_or_none (get_or entries d None) ≡ near_in map i d
+  unfolding near_in
+  entries_near = ap number_or_none entry_beside ∙ number_beside map (tile_at_index map i) d
+
+  pub entry_below : (j : Index) → get_or entries d None ≡ Some j → j.0 < area_of map.radius
+  unfolding beside_at
+  entry_below j e =
+      let t = neighbor_of (tile_at_index map i) d in
+      let same : index_of map t ≡ j = (cond_some (of_map map t) (index_of map t) j (sym entry_beside ∙ e)).1 in
+      omega (arith, ap (λ (v : Index). v.0) same, index_below map t)

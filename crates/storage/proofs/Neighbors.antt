@@ -1,30 +1,32 @@
 -- Laws of neighbours by index. Each index has something told of its neighbour, and one thing; going on in the opposite direction leads back; a neighbour is at distance 1,
 -- and what is at distance 1 is a neighbour.
-use mathlib.Core.Path.{◌≡◌, refl, sym, ap, ◌∙◌}
+use mathlib.Core.Path.{◌≡◌, refl, sym, ap, ◌∙◌, subst}
 use mathlib.Core.Bool.{Bool, true, false}
 use mathlib.Core.List.{List}
 use Prim.Native.Nat.{ℕ, zero, suc, ◌+◌, ◌%◌, ◌<◌}
 use native.Mathlib.Decide.{dec_lt}
 use native.Mathlib.Omega.{arith}
-use borrow.Author.Tests.{ne_eqb}
-use lib.ListN.{length, get_or, replicate, get_or-replicate}
+use lib.ListN.{length, get_or}
 use lib.Seq.{ext_get_or}
+use Rattle.std.specs.Prelude.{Option, None}
+use Rattle.std.specs.Option.{ok_or}
 use Rattle.hexes.specs.Answers.{Told, accepted, refused, refused_tile}
 use Rattle.hexes.specs.Refusals.{not_of_map}
 use Rattle.hexes.specs.Tiles.{neighbor_of, distance_of}
 use Rattle.hexes.specs.declared.Tile.{Tile}
+use Rattle.hexes.specs.declared.refusal.Refusal.{Refusal}
 use Rattle.hexes.proofs.Beside.{one_apart, six_neighbors}
 use Rattle.hexes.proofs.Metric.{neighbor_at_one}
 use Rattle.hexes.proofs.Tells.{One}
 use Rattle.hexes.proofs.Turning.{opposite_leads_back}
-use Rattle.storage.specs.Hexmod.{index, index_of, to_hexmod, FromHexmod}
-use Rattle.storage.specs.Leaves.{beside_in, tile_at_index}
+use Rattle.storage.specs.Hexmod.{index, index_of, IndexTells, to_hexmod, FromHexmod}
+use Rattle.storage.specs.Leaves.{beside_at, tile_at_index}
 use Rattle.storage.specs.Maps.{map_refusal, of_map, area_of}
-use Rattle.storage.specs.Neighbors.{Neighbor, no_index, entry_of, SixNeighbors}
+use Rattle.storage.specs.Neighbors.{Neighbor, entry_of, SixNeighbors}
 use Rattle.storage.specs.declared.Index.{Index}
 use Rattle.storage.specs.declared.Map.{Map}
 use Rattle.storage.proofs.Back.{one_index, the_tile_of, no_tile_of}
-use Rattle.storage.proofs.Besides.{beside_off, beside_on}
+use Rattle.storage.proofs.Besides.{at_off, at_on}
 use Rattle.storage.proofs.Ending.{from_fine, from_found, from_one, to_outside, to_found}
 use Rattle.storage.proofs.RoundTrip.{index_there_and_back}
 
@@ -120,26 +122,28 @@ of_distance_one map i j s t p q e =
     (l.d, (l.low, neighbor_found map i l.d s p (accepted j) (sym ((index_there_and_back map t j).1 q) ∙ ap (to_hexmod map) (sym l.to))))
 
 -- An entry beside a tile is what is told of its neighbour.
-pub entry_of_beside : (map : Map) (t : Tile) (d : ℕ) → map_refusal map ≡ 0 → beside_in map t d ≡ entry_of (to_hexmod map (neighbor_of t d))
+pub entry_of_beside : (map : Map) (t : Tile) (d : ℕ) → map_refusal map ≡ 0 → beside_at map t d ≡ entry_of (to_hexmod map (neighbor_of t d))
 entry_of_beside map t d z = go (of_map map (neighbor_of t d)) refl
   where
-    go : (b : Bool) → of_map map (neighbor_of t d) ≡ b → beside_in map t d ≡ entry_of (to_hexmod map (neighbor_of t d))
-    go true o = sym (beside_on map t d o) ∙ ap entry_of (to_found (index 0) map (neighbor_of t d) (index_of map (neighbor_of t d)) z o _ refl)
-    go false o = sym (beside_off map t d o) ∙ ap entry_of (to_outside (index 0) map (neighbor_of t d) (index_of map (neighbor_of t d)) z o)
+    go : (b : Bool) → of_map map (neighbor_of t d) ≡ b → beside_at map t d ≡ entry_of (to_hexmod map (neighbor_of t d))
+    go true o = sym (at_on map t d o) ∙ ap entry_of (to_found (index 0) map (neighbor_of t d) (index_of map (neighbor_of t d)) z o _ refl)
+    go false o = sym (at_off map t d o) ∙ ap entry_of (to_outside (index 0) map (neighbor_of t d) (index_of map (neighbor_of t d)) z o)
 
--- All six at once: where the way back refuses, and where it tells a tile.
+-- The entry beside a tile, as the answer of a call, is what is told of its neighbour.
+pub beside_told : (map : Map) (t : Tile) (d : ℕ) → map_refusal map ≡ 0 → IndexTells (ok_or (beside_at map t d) Refusal.NotOfMap) (λ told. told ≡ to_hexmod map (neighbor_of t d))
+beside_told map t d z = go (of_map map (neighbor_of t d)) refl
+  where
+    go : (b : Bool) → of_map map (neighbor_of t d) ≡ b → IndexTells (ok_or (beside_at map t d) Refusal.NotOfMap) (λ told. told ≡ to_hexmod map (neighbor_of t d))
+    go true o = subst (λ (e : Option Index). IndexTells (ok_or e Refusal.NotOfMap) (λ told. told ≡ to_hexmod map (neighbor_of t d))) (at_on map t d o) (to_found (index 0) map (neighbor_of t d) (index_of map (neighbor_of t d)) z o _ refl)
+    go false o = subst (λ (e : Option Index). IndexTells (ok_or e Refusal.NotOfMap) (λ told. told ≡ to_hexmod map (neighbor_of t d))) (at_off map t d o) (to_outside (index 0) map (neighbor_of t d) (index_of map (neighbor_of t d)) z o)
+
+-- All six at once, where the way back tells a tile.
 module _ (map : Map) (i : Index) where
-  pub six_lost : (n : ℕ) → 0 < n → FromHexmod map i (refused_tile n) → SixNeighbors map i (replicate 6 no_index)
-  six_lost n l h = record { six = refl; each = λ d k told p. get_or-replicate 6 d no_index 0 k ∙ sym (ap entry_of (p.lost n l h) ∙ not_found (index 0) n l) }
-    where
-      not_found : (v : Index) (n : ℕ) → 0 < n → entry_of (refused v n) ≡ no_index
-      not_found v n l = rw (ne_eqb n 0 (λ e. omega arith))
-
-  pub six_found : (t : Tile) → FromHexmod map i (accepted t) → (entries : List ℕ) → length entries ≡ 6 → ((d : ℕ) → d < 6 → get_or entries d 0 ≡ beside_in map t d) → SixNeighbors map i entries
+  pub six_found : (t : Tile) → FromHexmod map i (accepted t) → (entries : List (Option Index)) → length entries ≡ 6 → ((d : ℕ) → d < 6 → get_or entries d None ≡ beside_at map t d) → SixNeighbors map i entries
   six_found t h entries e f =
       record { six = e; each = λ d k told p. f d k ∙ entry_of_beside map t d (from_found map (index_of map) i t h).0 ∙ sym (ap entry_of (p.leads t h)) }
 
-  pub one_six : (r s : List ℕ) → SixNeighbors map i r → SixNeighbors map i s → r ≡ s
+  pub one_six : (r s : List (Option Index)) → SixNeighbors map i r → SixNeighbors map i s → r ≡ s
   one_six r s p q =
-      ext_get_or 0 r s (p.six ∙ sym q.six)
+      ext_get_or None r s (p.six ∙ sym q.six)
       (λ d h. let n = some_neighbor map i d in p.each d (omega (arith, p.six)) n.0 n.1 ∙ sym (q.each d (omega (arith, p.six)) n.0 n.1))

@@ -1,11 +1,10 @@
 -- Row and column of a tile of a map, relative to its centre: row = y + r, column = x + r - max(0, r - row). The way back asks for the one tile of the map with a row and column.
 use Rattle.std.specs.Prelude.{ℕ, ◌-◌, ℤ, pos, negsuc, ◌+ℤ◌, ◌-ℤ◌}
-use Rattle.hexes.specs.Answers.{Told, Answer, found, refusal, Tells}
+use Rattle.hexes.specs.Answers.{Told, Answer, Tells}
 use Rattle.hexes.specs.declared.Tile.{Tile}
 use Rattle.storage.specs.Maps.{to_place, FromPlace}
 use Rattle.storage.specs.declared.Map.{Map}
 use Rattle.storage.specs.declared.RowColumn.{RowColumn}
-use Rattle.storage.specs.declared.RowColumnAnswer.{RowColumnAnswer}
 
 -- A whole number that is not negative, as a natural one. Of a tile of the map, neither row nor column is negative (`Rattle.storage.proofs.Rows`).
 abbrev pub natural : ℤ → ℕ
@@ -25,13 +24,9 @@ row_column row column = record { row = row; column = column }
 abbrev pub row_column_in : Map → Tile → RowColumn
 row_column_in map t = row_column (row_in map t) (column_in map t)
 
--- A `RowColumnAnswer` as an answer, and what it tells.
-abbrev pub row_column_answer : RowColumnAnswer → Answer RowColumn
-row_column_answer (RowColumnAnswer.Found p) = found p
-row_column_answer (RowColumnAnswer.Refused n) = refusal n
-
-abbrev pub RowColumnTells : RowColumnAnswer → (Told RowColumn → Type 0) → Type 0
-RowColumnTells r = Tells (row_column 0 0) (row_column_answer r)
+-- What the answer of a call that finds a row and column tells.
+abbrev pub RowColumnTells : Answer RowColumn → (Told RowColumn → Type 0) → Type 0
+RowColumnTells = Tells (row_column 0 0)
 
 -- What the way there tells, and what the way back.
 abbrev pub to_row_column : Map → Tile → Told RowColumn

@@ -1,11 +1,10 @@
 -- The dense index of a tile of a map, relative to its centre: y + (3r+2)x modulo the area, never negative. The way back asks for the one tile of the map with an index.
 use Rattle.std.specs.Prelude.{ℕ, ◌+◌, ◌*◌, pos, ◌+ℤ◌, ◌-ℤ◌, ◌*ℤ◌}
 use Rattle.whole.specs.Euclid.{remainder}
-use Rattle.hexes.specs.Answers.{Told, Answer, found, refusal, Tells}
+use Rattle.hexes.specs.Answers.{Told, Answer, Tells}
 use Rattle.hexes.specs.declared.Tile.{Tile}
 use Rattle.storage.specs.Maps.{area_of, to_place, FromPlace}
 use Rattle.storage.specs.declared.Index.{Index}
-use Rattle.storage.specs.declared.IndexAnswer.{IndexAnswer}
 use Rattle.storage.specs.declared.Map.{Map}
 
 abbrev pub shift_of : ℕ → ℕ
@@ -20,18 +19,9 @@ index i = record { 0 = i }
 abbrev pub index_of : Map → Tile → Index
 index_of map t = index (index_in map t)
 
--- An `IndexAnswer` as an answer, and what it tells.
-abbrev pub index_answer : IndexAnswer → Answer Index
-index_answer (IndexAnswer.Found i) = found i
-index_answer (IndexAnswer.Refused n) = refusal n
-
-abbrev pub IndexTells : IndexAnswer → (Told Index → Type 0) → Type 0
-IndexTells r = Tells (index 0) (index_answer r)
-
--- The refusal number of an answer.
-abbrev pub number_of : IndexAnswer → ℕ
-number_of (IndexAnswer.Found i) = 0
-number_of (IndexAnswer.Refused n) = n
+-- What the answer of a call that finds an index tells.
+abbrev pub IndexTells : Answer Index → (Told Index → Type 0) → Type 0
+IndexTells = Tells (index 0)
 
 -- What the way there tells, and what the way back.
 abbrev pub to_hexmod : Map → Tile → Told Index

@@ -8,33 +8,35 @@
 
 #![tactic(auto)]
 
-mod input;
 mod report;
 mod ride;
 mod tables;
 mod words;
 
-use ride::ROOM;
+use ride::Asked;
 use std::env::FillError;
 use std::io;
 use std::rt::Env;
-use tables::HEAD;
-
-// How many words the longest input has, and one more, so that a word too many is seen.
-const WORDS: usize = HEAD + 2 * ROOM + 1;
+use words::Reading;
 
 // Does what the arguments of the program ask for: without one the plan, and with `check` alone the check.
 // It takes the runtime itself: a bound on the arguments would bring in all that the toolchain assumes of the environment too, which nothing here asks for.
 pub fn run(rt: &HostRuntime) -> io::Result<()> {
+    match asked(rt) {
+        Some(asked) => told(rt, asked),
+        None => report::usage(rt),
+    }
+}
+
+// What the arguments ask for, if it is anything.
+fn asked(rt: &HostRuntime) -> Option<Asked> {
     if !is_given(rt, 1) {
-        return told(rt, false);
+        return Some(Asked::Plan);
     }
-    if !is_given(rt, 2) {
-        if check_asked(rt) {
-            return told(rt, true);
-        }
+    if !is_given(rt, 2) && is_check(rt) {
+        return Some(Asked::Check);
     }
-    report::usage(rt)
+    None
 }
 
 // Is there an argument with this number?
@@ -44,7 +46,7 @@ fn is_given(rt: &HostRuntime, number: usize) -> bool {
 }
 
 // Is the first argument `check`?
-fn check_asked(rt: &HostRuntime) -> bool {
+fn is_check(rt: &HostRuntime) -> bool {
     let mut word = [0u8; 8];
     match rt.arg(1, &mut word) {
         Ok(length) => &word[..length] == b"check".as_slice(),
@@ -52,13 +54,13 @@ fn check_asked(rt: &HostRuntime) -> bool {
     }
 }
 
-// Reads the input, and tells what it asks for.
-fn told(rt: &(impl Input + Print), checks: bool) -> io::Result<()> {
-    let mut words = [0i64; WORDS];
-    let count = input::read_words(rt, &mut words)?;
-    // No more words are counted than were stored, but the count alone does not say so.
-    if count <= WORDS {
-        ride::tell(rt, checks, &words[..count])?;
-    }
-    Ok(())
+// Reads standard input to its end, and tells what is asked of it.
+fn told(rt: &(impl Input + Print), asked: Asked) -> io::Result<()> {
+    let mut reading = Reading::new();
+    text::input::each_byte(rt, |byte| {
+        reading.take(byte);
+        Ok(())
+    })?;
+    reading.end();
+    ride::tell(rt, asked, reading.words())
 }

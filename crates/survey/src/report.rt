@@ -1,6 +1,7 @@
 // What is printed: answers, refusals, and what could not be read.
 
-use hexes::{limits, refusals};
+use field_of_movement::Fault;
+use hexes::{Refusal, limits};
 use std::io;
 
 // How the program is called.
@@ -8,28 +9,33 @@ pub(crate) fn usage(rt: &impl Print) -> io::Result<()> {
     println!(rt; "usage: valley [check], with the valley on standard input")
 }
 
-// `unreadable` and the number of a word.
-pub(crate) fn unreadable(rt: &impl Print, word: usize) -> io::Result<()> {
-    println!(rt; "unreadable {word}")
+// Why a valley is not told: a word that cannot be read, by its place from 0 on, or a refusal.
+#[derive(Clone, Copy)]
+pub(crate) enum Trouble {
+    Unreadable(usize),
+    Refused(Refusal),
 }
 
-// `refused` and the number of the refusal.
-pub(crate) fn refused(rt: &impl Print, number: u32) -> io::Result<()> {
-    println!(rt; "refused {number}")
-}
-
-// The verdict of the totals check: `check accepted`; or the refusal, with the index at which the neighbour rule is broken where it is one of the totals.
-pub(crate) fn verdict(rt: &impl Print, number: u32, broken: u32) -> io::Result<()> {
-    match number {
-        0 => accepted(rt),
-        refusals::NOT_RIGHT => println!(rt; "refused 9 at {broken}"),
-        _ => refused(rt, number),
+// `unreadable` and the number of the word, from 1 on; or `refused` and the number of the refusal.
+pub(crate) fn untold(rt: &impl Print, trouble: Trouble) -> io::Result<()> {
+    match trouble {
+        Trouble::Unreadable(at) => println!(rt; "unreadable {}", at.saturating_add(1)),
+        Trouble::Refused(refusal) => refused(rt, refusal),
     }
 }
 
-// What is told of totals that are right.
-fn accepted(rt: &impl Print) -> io::Result<()> {
-    println!(rt; "check accepted")
+// `refused` and the number of the refusal.
+pub(crate) fn refused(rt: &impl Print, refusal: Refusal) -> io::Result<()> {
+    println!(rt; "refused {refusal}")
+}
+
+// The verdict of the totals check: `check accepted`; or the refusal, with the index at which the neighbour rule is broken where it is one of the totals.
+pub(crate) fn verdict(rt: &impl Print, verdict: Result<(), Fault>) -> io::Result<()> {
+    match verdict {
+        Ok(()) => println!(rt; "check accepted"),
+        Err(Fault::NotRight(index)) => println!(rt; "refused 9 at {}", index.0),
+        Err(Fault::Refused(refusal)) => refused(rt, refusal),
+    }
 }
 
 // `totals`, and each of them on its own line.
@@ -53,19 +59,8 @@ fn total(rt: &impl Print, total: u32) -> io::Result<()> {
 // `route` and its number of tiles, and x and y of each on its own line, from the run that holds them.
 pub(crate) fn route(rt: &impl Print, tiles: u32, run: &[i32]) -> io::Result<()> {
     println!(rt; "route {tiles}")?;
-    for i in 0..tiles {
-        tile(rt, run, i)?;
-    }
-    Ok(())
-}
-
-// The tile with this number in the run, where the run has it: a tile is two entries, x and y.
-fn tile(rt: &impl Print, run: &[i32], i: u32) -> io::Result<()> {
-    let at = 2 * i as usize;
-    if at + 1 < run.len() {
-        let x = run[at];
-        let y = run[at + 1];
-        println!(rt; "{x} {y}")?;
+    for tile in run.chunks_exact(2).take(tiles as usize) {
+        println!(rt; "{} {}", tile[0], tile[1])?;
     }
     Ok(())
 }

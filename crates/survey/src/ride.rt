@@ -5,165 +5,115 @@ ghost use Rattle.std.specs.Prelude.{◌≤◌, length};
 ghost use Rattle.hexes.specs.Limits.{radius_limit};
 ghost use Rattle.storage.specs.Maps.{area_of};
 
-use crate::tables::HEAD;
+use crate::report::Trouble;
+use crate::tables::{HEAD, argument_at, tile_at};
+use crate::words::Word;
 use crate::{report, tables};
 use hexes::{Tile, limits};
-use questions::arguments::{
-    SignedArgument, TileArgument, UnsignedArgument, signed_at, tile_at, unsigned_at,
-};
-use runs::ListAnswer;
 use std::io;
 use storage::Map;
 
-// The largest radius of a map.
-const RADIUS: usize = limits::RADIUS as usize;
+// What is asked: the plan, or the verdict on totals that stand behind the efforts.
+#[derive(Clone, Copy, PartialEq, Eq)]
+pub(crate) enum Asked {
+    Plan,
+    Check,
+}
 
-// How many tiles the largest map has.
-pub(crate) const ROOM: usize = 3 * RADIUS * (RADIUS + 1) + 1;
-
-// What is asked: the verdict on totals or the plan, of a ride on a map that begins and ends somewhere and may take so much.
+// A ride on a map, that begins and ends somewhere and may take so much.
 #[derive(Clone, Copy)]
 struct Ride {
-    checks: bool,
     map: Map,
     start: Tile,
     end: Tile,
     budget: u32,
 }
 
-// Tells what the words ask for: the verdict on totals that were read, or the plan. They begin with x and y of the centre, and the radius.
-pub(crate) fn tell(rt: &impl Print, checks: bool, words: &[i64]) -> io::Result<()> {
-    let TileArgument::Is(centre) = tile_at(words, 0, 1) else {
-        return tile_unreadable(rt, words, 0);
-    };
-    let UnsignedArgument::Is(radius) = unsigned_at(words, 2) else {
-        return report::unreadable(rt, 3);
-    };
-    on_map(rt, checks, words, Map { centre, radius })
-}
-
-// Tells which of two words that are no tile is the first to be no number. Words are numbered from 1, and places from 0.
-fn tile_unreadable(rt: &impl Print, words: &[i64], at: usize) -> io::Result<()>
-    requires { at ≤ 8 }
-{
-    let word = match signed_at(words, at) {
-        SignedArgument::Not => at + 1,
-        SignedArgument::Is(_) => at + 2,
-    };
-    report::unreadable(rt, word)
-}
-
-// Judges the map, and reads x and y of the start.
-fn on_map(rt: &impl Print, checks: bool, words: &[i64], map: Map) -> io::Result<()> {
-    let number = storage::refusal_of(map);
-    if number != 0 {
-        return report::refused(rt, number);
+// Tells what is asked of the words.
+pub(crate) fn tell(rt: &impl Print, asked: Asked, words: &[Word]) -> io::Result<()> {
+    match head(words) {
+        Ok(ride) => with_tables(rt, asked, words, ride),
+        Err(trouble) => report::untold(rt, trouble),
     }
-    let TileArgument::Is(start) = tile_at(words, 3, 4) else {
-        return tile_unreadable(rt, words, 3);
-    };
-    from_start(rt, checks, words, map, start)
 }
 
-// Reads x and y of the end, and the budget.
-fn from_start(
-    rt: &impl Print,
-    checks: bool,
-    words: &[i64],
-    map: Map,
-    start: Tile,
-) -> io::Result<()> {
-    let TileArgument::Is(end) = tile_at(words, 5, 6) else {
-        return tile_unreadable(rt, words, 5);
+// Reads what stands before the tables.
+fn head(words: &[Word]) -> Result<Ride, Trouble> {
+    let map = Map {
+        centre: tile_at(words, 0)?,
+        radius: argument_at(words, 2)?,
     };
-    let UnsignedArgument::Is(budget) = unsigned_at(words, 7) else {
-        return report::unreadable(rt, 8);
-    };
-    with_tables(
-        rt,
-        words,
-        Ride {
-            checks,
-            map,
-            start,
-            end,
-            budget,
-        },
-    )
+    if let Some(refusal) = storage::refusal_of(map) {
+        return Err(Trouble::Refused(refusal));
+    }
+    Ok(Ride {
+        map,
+        start: tile_at(words, 3)?,
+        end: tile_at(words, 5)?,
+        budget: argument_at(words, 7)?,
+    })
 }
 
-// Lends tables with an entry for each tile, and has them read.
-fn with_tables(rt: &impl Print, words: &[i64], ride: Ride) -> io::Result<()> {
+// Lends tables with an entry for each tile, has them read, and tells what is asked.
+fn with_tables(rt: &impl Print, asked: Asked, words: &[Word], ride: Ride) -> io::Result<()> {
     let area = storage::area(ride.map) as usize;
     // No map has more tiles, but the area alone does not say so.
-    if area > ROOM {
+    if area > limits::AREA {
         return Ok(());
     }
-    let mut efforts = [0u16; ROOM];
-    let mut totals = [0u32; ROOM];
-    read(rt, words, ride, &mut efforts[..area], &mut totals[..area])
+    let mut efforts = [0u16; limits::AREA];
+    let mut totals = [0u32; limits::AREA];
+    let efforts = &mut efforts[..area];
+    let totals = &mut totals[..area];
+    if let Err(trouble) = read(asked, words, efforts, totals) {
+        return report::untold(rt, trouble);
+    }
+    match asked {
+        Asked::Plan => planned(rt, ride, efforts, totals),
+        Asked::Check => verdict_told(rt, ride, efforts, totals),
+    }
 }
 
-// Reads the efforts, and of a check the totals too, and tells what is asked.
+// Reads the efforts, and of a check the totals too. No word may follow.
 fn read(
-    rt: &impl Print,
-    words: &[i64],
-    ride: Ride,
+    asked: Asked,
+    words: &[Word],
     efforts: &mut [u16],
     totals: &mut [u32],
-) -> io::Result<()>
-    requires { length efforts.old ≤ area_of radius_limit }
-{
-    let word = tables::read(words, end(ride.checks, efforts.len()), efforts, totals);
-    if word != 0 {
-        return report::unreadable(rt, word);
+) -> Result<(), Trouble> {
+    let mut end = tables::read(words, HEAD, efforts)?;
+    if asked == Asked::Check {
+        end = tables::read(words, end, totals)?;
     }
-    asked(rt, ride, efforts, totals)
-}
-
-// Where the words of a valley end that has this many tiles: behind the efforts, and of a check behind the totals.
-fn end(checks: bool, area: usize) -> usize
-    requires { area ≤ area_of radius_limit }
-{
-    if checks { HEAD + 2 * area } else { HEAD + area }
-}
-
-// Tells the verdict on the totals, or the plan, whose totals are written over them.
-fn asked(rt: &impl Print, ride: Ride, efforts: &[u16], totals: &mut [u32]) -> io::Result<()>
-    requires { length efforts.now ≤ area_of radius_limit }
-{
-    if ride.checks {
-        verdict_told(rt, ride, efforts, totals)
-    } else {
-        planned(rt, ride, efforts, totals)
-    }
+    tables::end(words, end)
 }
 
 // Tells the verdict of the totals check.
 fn verdict_told(rt: &impl Print, ride: Ride, efforts: &[u16], totals: &[u32]) -> io::Result<()> {
-    let verdict = field_of_movement::check_totals(
-        ride.map,
-        efforts,
-        ride.start,
-        ride.budget,
-        totals,
-    );
-    report::verdict(rt, verdict.number, verdict.broken.0)
+    let Ride {
+        map,
+        start,
+        budget,
+        ..
+    } = ride;
+    report::verdict(
+        rt,
+        field_of_movement::check_totals(map, efforts, start, budget, totals),
+    )
 }
 
-// Tells the plan: the riding range, the verdict on its totals, and the route.
+// Tells the plan: the riding range, which is written over the totals, the verdict on it, and the route.
 fn planned(rt: &impl Print, ride: Ride, efforts: &[u16], totals: &mut [u32]) -> io::Result<()>
     requires { length efforts.now ≤ area_of radius_limit }
 {
-    let number = field_of_movement::riding_range(
-        ride.map,
-        efforts,
-        ride.start,
-        ride.budget,
-        totals,
-    );
-    if number != 0 {
-        return report::refused(rt, number);
+    let Ride {
+        map,
+        start,
+        budget,
+        ..
+    } = ride;
+    if let Err(refusal) = field_of_movement::riding_range(map, efforts, start, budget, totals) {
+        return report::refused(rt, refusal);
     }
     report::totals(rt, totals)?;
     verdict_told(rt, ride, efforts, totals)?;
@@ -174,8 +124,8 @@ fn planned(rt: &impl Print, ride: Ride, efforts: &[u16], totals: &mut [u32]) -> 
 fn route_told(rt: &impl Print, ride: Ride, efforts: &[u16]) -> io::Result<()>
     requires { length efforts.now ≤ area_of radius_limit }
 {
-    let mut ranks = [0u64; ROOM];
-    let mut run = [0i32; 2 * ROOM];
+    let mut ranks = [0u64; limits::AREA];
+    let mut run = [0i32; 2 * limits::AREA];
     let answer = pathfinding::route(
         ride.map,
         efforts,
@@ -185,7 +135,7 @@ fn route_told(rt: &impl Print, ride: Ride, efforts: &[u16]) -> io::Result<()>
         &mut run,
     );
     match answer {
-        ListAnswer::Refused(number) => report::refused(rt, number),
-        ListAnswer::Listed(tiles) => report::route(rt, tiles, &run),
+        Ok(tiles) => report::route(rt, tiles, &run),
+        Err(refusal) => report::refused(rt, refusal),
     }
 }

@@ -1,69 +1,74 @@
-// The tables of a valley: words in dense-index order, read into lent arrays.
+// The arguments and the tables of a valley, read from its words.
 
-ghost use Rattle.std.specs.Prelude.{◌≤◌, ◌<◌, length};
+ghost use Rattle.std.specs.Prelude.{◌≤◌};
 
-use crate::words::DASH;
-use hexes::limits;
-use questions::arguments::{UnsignedArgument, unsigned_at};
+use crate::report::Trouble;
+use crate::words::Word;
+use hexes::{Tile, limits};
+use questions::arguments::Number;
 
 // How many words stand before the tables.
 pub(crate) const HEAD: usize = 8;
 
-// Reads the words before a place into the entries of both tables, the efforts first. It answers the number of the first word that is missing, no entry, or one too many; 0 where there is none.
-pub(crate) fn read(words: &[i64], end: usize, efforts: &mut [u16], totals: &mut [u32]) -> usize {
-    let mut at: usize = HEAD;
-    while at < end {
-        if !entry_read(words, at, efforts, totals) {
-            return at + 1;
-        }
-        at += 1;
-    }
-    if end < words.len() { end + 1 } else { 0 }
+// An entry of a table, for which `-` may stand.
+pub(crate) trait Entry: Number {
+    // What `-` stands for.
+    const MARK: Self;
 }
 
-// Reads one word into its entry, and says whether there is one.
-fn entry_read(words: &[i64], at: usize, efforts: &mut [u16], totals: &mut [u32]) -> bool
-    requires { 8 ≤ at }
+// Of an effort `-` says that the tile is barred.
+impl Entry for u16 {
+    const MARK: u16 = limits::BARRED;
+}
+
+// Of a total `-` says that there is no way.
+impl Entry for u32 {
+    const MARK: u32 = limits::NO_WAY;
+}
+
+// The word at a place as an argument.
+pub(crate) fn argument_at<T: Number>(words: &[Word], at: usize) -> Result<T, Trouble> {
+    match words.get(at) {
+        Some(Word::Number(number)) => T::of_word(*number).ok_or(Trouble::Unreadable(at)),
+        _ => Err(Trouble::Unreadable(at)),
+    }
+}
+
+// The words at a place and behind it as a tile.
+pub(crate) fn tile_at(words: &[Word], at: usize) -> Result<Tile, Trouble>
+    requires { at ≤ 8 }
 {
-    let entry = at - HEAD;
-    if entry < efforts.len() {
-        return effort_read(words, at, efforts, entry);
-    }
-    total_read(words, at, totals, entry - efforts.len())
+    Ok(Tile {
+        x: argument_at(words, at)?,
+        y: argument_at(words, at + 1)?,
+    })
 }
 
-// Reads one effort into an entry, and says whether there is one. 65535 bars the tile as `-` does.
-fn effort_read(words: &[i64], at: usize, efforts: &mut [u16], entry: usize) -> bool
-    requires { entry < length efforts.old }
-{
-    let UnsignedArgument::Is(effort) = marked_at(words, at, limits::BARRED as u32) else {
-        return false;
-    };
-    if effort > limits::BARRED as u32 {
-        return false;
+// The word at a place as an entry of a table.
+fn entry_at<T: Entry>(words: &[Word], at: usize) -> Result<T, Trouble> {
+    if let Some(Word::Dash) = words.get(at) {
+        return Ok(T::MARK);
     }
-    efforts[entry] = effort as u16;
-    true
+    argument_at(words, at)
 }
 
-// Reads one total into an entry, and says whether there is one. 4294967295 says that there is no way, as `-` does.
-fn total_read(words: &[i64], at: usize, totals: &mut [u32], entry: usize) -> bool {
-    if entry >= totals.len() {
-        return false;
+// Reads the entries of a table from the words from a place on, and answers the place behind them.
+pub(crate) fn read<T: Entry>(
+    words: &[Word],
+    from: usize,
+    table: &mut [T],
+) -> Result<usize, Trouble> {
+    for (i, entry) in table.iter_mut().enumerate() {
+        *entry = entry_at(words, from.saturating_add(i))?;
     }
-    let UnsignedArgument::Is(total) = marked_at(words, at, limits::NO_WAY) else {
-        return false;
-    };
-    totals[entry] = total;
-    true
+    Ok(from.saturating_add(table.len()))
 }
 
-// The word at a place as an unsigned number, `-` as the mark of its table.
-fn marked_at(words: &[i64], at: usize, mark: u32) -> UnsignedArgument {
+// Is there no word from a place on?
+pub(crate) fn end(words: &[Word], at: usize) -> Result<(), Trouble> {
     if at < words.len() {
-        if words[at] == DASH {
-            return UnsignedArgument::Is(mark);
-        }
+        Err(Trouble::Unreadable(at))
+    } else {
+        Ok(())
     }
-    unsigned_at(words, at)
 }

@@ -1,14 +1,16 @@
 -- Laws of how a call is judged: the ways in which it is refused, and what is known of one that is not.
 use mathlib.Core.Path.{◌≡◌, refl, sym, ap, ◌∙◌}
 use mathlib.Core.Bool.{Bool, true, false}
-use Prim.Native.Nat.{ℕ, zero, suc, ◌<◌}
+use Prim.Native.Nat.{ℕ, zero, suc}
 use native.Mathlib.Omega.{arith}
 use lib.Dec.{eqb}
-use borrow.Author.Tests.{eq-eqb, ne_eqb, eqb-true}
+use borrow.Author.Tests.{eq-eqb, eqb-true}
 use Rattle.hexes.specs.Answers.{Told, accepted, refused, provided}
-use Rattle.hexes.specs.Refusals.{not_of_map, wrong_length}
+use Rattle.hexes.specs.Refusals.{number_of, not_of_map, wrong_length}
 use Rattle.hexes.specs.declared.Tile.{Tile}
+use Rattle.hexes.specs.declared.refusal.Refusal.{Refusal}
 use Rattle.hexes.proofs.Chains.{both}
+use Rattle.hexes.proofs.Tells.{refusal_number}
 use Rattle.storage.specs.Hexmod.{index, index_of, to_hexmod}
 use Rattle.storage.specs.Maps.{map_refusal, of_map, area_of, tiles_of, judged_by, to_place}
 use Rattle.storage.specs.declared.Index.{Index}
@@ -19,10 +21,6 @@ use Rattle.storage.proofs.RoundTrip.{index_there_and_back}
 use Rattle.terrain.specs.Judging.{lengths_fit, judged_start, call_refusal}
 
 module _ (map : Map) (efforts table : ℕ) where
-  pub misfit_efforts : (efforts ≡ tiles_of map → ⊥) → false ≡ lengths_fit map efforts table
-  unfolding lengths_fit
-  misfit_efforts p = rw (ne_eqb efforts (tiles_of map) p)
-
   pub fit_by_table : efforts ≡ tiles_of map → eqb table (tiles_of map) ≡ lengths_fit map efforts table
   unfolding lengths_fit
   fit_by_table p = rw (eq-eqb efforts (tiles_of map) p)
@@ -40,15 +38,15 @@ pub record Judged (map : Map) (start : Tile) (efforts table : ℕ) : Type 0 wher
 
 module _ (map : Map) (start : Tile) (efforts table : ℕ) where
   -- Where the way to the start's index refuses, so does the call, and with the same number.
-  pub judged_refused : (n : ℕ) → 0 < n → refused (index 0) n ≡ to_hexmod map start → refused (index 0) n ≡ judged_start map start efforts table
+  pub judged_refused : (e : Refusal) → refused (index 0) (number_of e) ≡ to_hexmod map start → refused (index 0) (number_of e) ≡ judged_start map start efforts table
   unfolding judged_start to_place
-  judged_refused n h e = go (map_refusal map) (of_map map start) e
+  judged_refused e h = go (map_refusal map) (of_map map start) h
     where
-      go : (m : ℕ) (on : Bool) → refused (index 0) n ≡ judged_by m (refused (index 0)) (provided on (refused (index 0) not_of_map) (accepted (index_of map start)))
-          → refused (index 0) n ≡ judged_by m (refused (index 0)) (provided on (refused (index 0) not_of_map) (provided (lengths_fit map efforts table) (refused (index 0) wrong_length) (accepted (index_of map start))))
-      go zero true e = let k : n ≡ 0 = ap (λ (v : Told Index). v.number) e in absurd (omega arith)
-      go zero false e = e
-      go (suc m) on e = e
+      go : (m : ℕ) (on : Bool) → refused (index 0) (number_of e) ≡ judged_by m (refused (index 0)) (provided on (refused (index 0) not_of_map) (accepted (index_of map start)))
+          → refused (index 0) (number_of e) ≡ judged_by m (refused (index 0)) (provided on (refused (index 0) not_of_map) (provided (lengths_fit map efforts table) (refused (index 0) wrong_length) (accepted (index_of map start))))
+      go zero true h = let k : number_of e ≡ 0 = ap (λ (v : Told Index). v.number) h in absurd (omega (arith, refusal_number e))
+      go zero false h = h
+      go (suc m) on h = h
 
   -- Where it finds an index, the lengths decide.
   module _ (i : Index) (e : accepted i ≡ to_hexmod map start) where

@@ -9,35 +9,32 @@ ghost use Rattle.terrain.specs.Judging.{lengths_fit, judged_start};
 ghost use Rattle.storage.specs.Hexmod.{IndexTells};
 ghost use Rattle.terrain.specs.LandOfMap.{price_of};
 
-use hexes::{Tile, limits, refusals};
-use storage::{IndexAnswer, Map};
+use hexes::{Refusal, Tile, limits};
+use storage::{Index, Map};
 
 // Has each of two tables, of these lengths, one entry for each tile of the map?
+#[tactic(auto, unfolding(crate::specs::Judging::lengths_fit))]
 pub fn lengths_fit(map: Map, efforts: usize, table: usize) -> bool
     ensures { result ≡ lengths_fit map efforts table }
 {
     let area = storage::area(map) as usize;
-    if efforts != area {
-        return false;
-    }
-    table == area
+    efforts == area && table == area
 }
 
 // The index of the start of a call that takes a map, a start, an effort table and another table, of these lengths; or why the call is refused.
-pub fn judge(map: Map, start: Tile, efforts: usize, table: usize) -> IndexAnswer
+#[tactic(auto, using(crate::proofs::Judging::judged_refused))]
+pub fn judge(map: Map, start: Tile, efforts: usize, table: usize) -> Result<Index, Refusal>
     ensures { IndexTells result (λ told. told ≡ judged_start map start efforts table) }
 {
-    let found = storage::to_hexmod_coordinates(map, start);
-    let IndexAnswer::Found(index) = found else {
-        return found;
-    };
+    let index = storage::to_hexmod_coordinates(map, start)?;
     if !lengths_fit(map, efforts, table) {
-        return IndexAnswer::Refused(refusals::WRONG_LENGTH);
+        return Err(Refusal::WrongLength);
     }
-    IndexAnswer::Found(index)
+    Ok(index)
 }
 
-// What it costs to enter a tile: one more than its effort, or 0, which shuts the step, if it is barred.
+// What it costs to enter a tile: one more than its effort, or 0 if it is barred. It is a number and no `Option`, since the theories of `paths` read a cost of 0 as a shut step.
+#[tactic(auto, unfolding(crate::specs::LandOfMap::price_of))]
 pub fn price_of(effort: u16) -> u64
     ensures value { result ≡ price_of effort }
     ensures upper_bound { result ≤ barred }

@@ -2,37 +2,21 @@
 
 #![tactic(auto)]
 
-ghost use Rattle.std.specs.Prelude.{◌≤◌};
-
-use hexes::{Tile, TileAnswer, limits};
+use hexes::{Refusal, Tile, limits};
 use std::io;
-use storage::{Index, IndexAnswer, Map, RowColumnAnswer};
+use storage::{Index, Map};
 
 // More indices than any map that is not refused has.
 const MORE_THAN_ANY: u32 = 65_536;
 
-// Whether index i, which led to a tile, is lost on the way back, or the tile on the way by row and column.
-fn is_lost(map: Map, i: u32, tile: Tile) -> bool {
-    let IndexAnswer::Found(back) = storage::to_hexmod_coordinates(map, tile) else {
-        return true;
-    };
-    if back.0 != i {
-        return true;
-    }
-    let RowColumnAnswer::Found(at) = storage::to_row_column(map, tile) else {
-        return true;
-    };
-    let TileAnswer::Found(again) = storage::from_row_column(map, at) else {
-        return true;
-    };
-    hexes::distance(again, tile) != 0
+// The tile that has the row and column of a tile: that tile again, unless it is lost on the way.
+fn by_row_column(map: Map, tile: Tile) -> Result<Tile, Refusal> {
+    storage::from_row_column(map, storage::to_row_column(map, tile)?)
 }
 
-// 1 for an index that is lost, else 0.
-fn lost(map: Map, i: u32, tile: Tile) -> u32
-    ensures { result ≤ 1 }
-{
-    if is_lost(map, i, tile) { 1 } else { 0 }
+// Is an index, which led to a tile, lost on the way back, or the tile on the way by row and column?
+fn is_lost(map: Map, index: Index, tile: Tile) -> bool {
+    storage::to_hexmod_coordinates(map, tile) != Ok(index) || by_row_column(map, tile) != Ok(tile)
 }
 
 // The number of indices of a map, and how many of them were lost.
@@ -44,19 +28,18 @@ struct Tour {
 
 // A map's indices from 0 on, as long as there is a tile.
 fn toured(map: Map) -> Tour {
-    let mut indices: u32 = 0;
-    let mut gone: u32 = 0;
-    while indices < MORE_THAN_ANY {
-        let TileAnswer::Found(tile) = storage::from_hexmod_coordinates(map, Index(indices)) else {
+    let mut tour = Tour {
+        indices: 0,
+        lost: 0,
+    };
+    for i in 0..MORE_THAN_ANY {
+        let Ok(tile) = storage::from_hexmod_coordinates(map, Index(i)) else {
             break;
         };
-        gone += lost(map, indices, tile);
-        indices += 1;
+        tour.indices += 1;
+        tour.lost += u32::from(is_lost(map, Index(i), tile));
     }
-    Tour {
-        indices,
-        lost: gone,
-    }
+    tour
 }
 
 // One line of the report: the radius, its indices, and how many were lost.
@@ -65,7 +48,7 @@ fn report(rt: &impl Print, radius: u32, tour: Tour) -> io::Result<()> {
 }
 
 fn main(rt: HostRuntime) -> io::Result<()> {
-    for radius in 0..limits::RADIUS + 1 {
+    for radius in 0..=limits::RADIUS {
         let map = Map {
             centre: Tile {
                 x: 1_000_000,

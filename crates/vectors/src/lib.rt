@@ -9,101 +9,52 @@ mod report;
 mod verdict;
 mod words;
 
-use report::COUNTS;
+use report::Counts;
 use std::io;
-use std::io::Read;
 use verdict::Verdict;
 use words::{Line, Reading};
 
-// How many numbers a line, or an answer, may have.
-const WORDS: usize = 2048;
-
-// How many bytes of input are read at once at most.
-const BLOCK: usize = 65536;
-
-// How many blocks of input are read at most, since every loop must end: far more than there is.
-const BLOCKS: u64 = 18446744073709551615;
+// How many numbers an answer may have.
+const NUMBERS: usize = 2048;
 
 // Reads standard input to its end, runs every vector, and prints the report. A line feed is added, so that a last line without one counts too.
 pub fn run(rt: &(impl Input + Print)) -> io::Result<()> {
-    let mut words = [0i64; WORDS];
-    let mut counts = [0u64; COUNTS];
-    let reading = all(rt, &mut words, &mut counts)?;
-    byte(rt, reading, b'\n', &mut words, &mut counts)?;
-    report::print(rt, &counts)
-}
-
-// Takes in the whole input, block by block.
-fn all(rt: &(impl Input + Print), words: &mut [i64], counts: &mut [u64]) -> io::Result<Reading> {
-    let mut input = rt.reader();
-    let mut buffer = [0u8; BLOCK];
-    let mut reading = words::line_start();
-    for _ in 0..BLOCKS {
-        let n = input.read(&mut buffer)?;
-        if n == 0 {
-            break;
-        }
-        reading = bytes(rt, reading, &buffer[..n], words, counts)?;
-    }
-    Ok(reading)
-}
-
-// Takes in bytes one by one.
-fn bytes(
-    rt: &impl Print,
-    start: Reading,
-    s: &[u8],
-    words: &mut [i64],
-    counts: &mut [u64],
-) -> io::Result<Reading> {
-    let mut reading = start;
-    for b in s {
-        reading = byte(rt, reading, *b, words, counts)?;
-    }
-    Ok(reading)
+    let mut reading = Reading::new();
+    let mut counts = Counts::new();
+    text::input::each_byte(rt, |byte| take(rt, byte, &mut reading, &mut counts))?;
+    take(rt, b'\n', &mut reading, &mut counts)?;
+    counts.print(rt)
 }
 
 // Takes in one byte. A line feed ends a line, whose vector is run there.
-fn byte(
-    rt: &impl Print,
-    before: Reading,
-    b: u8,
-    words: &mut [i64],
-    counts: &mut [u64],
-) -> io::Result<Reading> {
-    let reading = words::taken(before, b, words);
-    if b == b'\n' {
-        line(rt, reading, words, counts)?;
-        return Ok(words::line_start());
+fn take(rt: &impl Print, byte: u8, reading: &mut Reading, counts: &mut Counts) -> io::Result<()> {
+    reading.take(byte);
+    if byte == b'\n' {
+        line(rt, reading.line(), counts)?;
+        reading.begin_line();
     }
-    Ok(reading)
+    Ok(())
 }
 
 // A line that has ended: its vector is run, unless it has none.
-fn line(rt: &impl Print, reading: Reading, words: &[i64], counts: &mut [u64]) -> io::Result<()> {
-    report::next_line(counts);
-    match words::line_of(reading) {
+fn line(rt: &impl Print, line: Line<'_>, counts: &mut Counts) -> io::Result<()> {
+    counts.next_line();
+    match line {
         Line::Skipped => Ok(()),
-        Line::Spoilt => report::unreadable(rt, counts),
-        Line::Words(count) => {
-            // No more words are counted than were stored, but the count alone does not say so.
-            if count > words.len() {
-                return report::unreadable(rt, counts);
-            }
-            vector(rt, &words[..count], counts)
-        }
+        Line::Spoilt => counts.unreadable(rt),
+        Line::Words(words) => vector(rt, words, counts),
     }
 }
 
 // Runs the vector that a line's words are, and counts what it showed.
-fn vector(rt: &impl Print, words: &[i64], counts: &mut [u64]) -> io::Result<()> {
-    let mut answer = [0i64; WORDS];
+fn vector(rt: &impl Print, words: &[i64], counts: &mut Counts) -> io::Result<()> {
+    let mut answer = [0i64; NUMBERS];
     match verdict::judged(words, &mut answer) {
-        Verdict::Agrees(kind) => {
-            report::agrees(counts, kind);
+        Some(Verdict::Agrees(kind)) => {
+            counts.agrees(kind);
             Ok(())
         }
-        Verdict::Differs(kind, length) => report::differs(rt, counts, kind, &answer, length),
-        Verdict::Unreadable => report::unreadable(rt, counts),
+        Some(Verdict::Differs(kind, numbers)) => counts.differs(rt, kind, numbers),
+        None => counts.unreadable(rt),
     }
 }

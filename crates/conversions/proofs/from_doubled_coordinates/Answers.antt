@@ -1,13 +1,17 @@
--- `from_doubled_coordinates` meets its contract: width is led back from as it is, and height through its mirror.
-use mathlib.Core.Path.{refl}
+-- `from_doubled_coordinates` meets its contract: by the axes of its mode every grid is led back from as doubled width.
 use mathlib.Core.Bool.{true}
+use Rattle.std.proofs.lemmas.Result.{err_from_is_err_and}
 use Rattle.conversions.specs.Doubled.{doubled_of}
-use Rattle.conversions.proofs.Chosen.{from_doubled_chosen}
-use Rattle.conversions.proofs.Mirror.{height_mirrors, mirror_back}
+use Rattle.conversions.proofs.Mirror.{height_mirrors, back_found, back_refused}
 use Rattle.conversions.proofs.from_doubled_coordinates.Goals as goal
 
-pub returns-in-1 : goal.returns-in-1
-returns-in-1 c =
+pub returns-in_err-tile : goal.returns-in_err-tile
+returns-in_err-tile c =
     let s = c.args in
-    from_doubled_chosen s.mode 1 c.in-1.is refl s.pair c.tile_answer.result
-    (mirror_back (doubled_of 0) (doubled_of 1) height_mirrors s.pair true c.from_width-in-1.result c.tile_answer.result c.pair.ensures c.from_width-in-1.ensures c.tile_answer.ensures)
+    let p = err_from_is_err_and c.from_residual-in_err-tile.result c.from_residual-in_err-tile.ensures.1 in
+    rw (p.1, p.2) (back_refused doubled_of height_mirrors s.mode c.in_ok-axes.ensures true s.pair c.pair.ensures _ c.in_err-tile.ensures)
+
+pub returns : goal.returns
+returns c =
+    let s = c.args in
+    back_found doubled_of height_mirrors s.mode c.in_ok-axes.ensures true s.pair c.pair.ensures c.in_ok-tile.ensures c.tile.ensures

@@ -1,22 +1,23 @@
--- `to_offset_coordinates` meets its contract: a flat grid converts the tile as it is, and a pointy one mirrors it.
-use mathlib.Core.Path.{◌≡◌, refl}
-use mathlib.Core.Bool.{◌&&◌}
-use borrow.Author.Rules.{rules}
-use Rattle.conversions.specs.Grid.{known}
+-- `to_offset_coordinates` meets its contract: by the axes of its orientation every grid is converted as a flat one.
+use mathlib.Core.Path.{◌∙◌}
+use Rattle.std.proofs.lemmas.Result.{err_from_is_err_and}
 use Rattle.conversions.specs.Offset.{offset_of}
-use Rattle.conversions.proofs.Chosen.{told_same, to_offset_chosen, to_none, orientation_unknown}
-use Rattle.conversions.proofs.Mirror.{pointy_mirrors, mirror_there}
+use Rattle.conversions.proofs.GridLaws.{to_unknown, to_found}
+use Rattle.conversions.proofs.Mirror.{pointy_mirrors, limit_by, there_is}
 use Rattle.conversions.proofs.to_offset_coordinates.Goals as goal
 
-pub returns-in-1 : goal.returns-in-1
-returns-in-1 c =
-    let s = c.args in
-    told_same c.pair_answer.result (to_offset_chosen s.mode s.orientation 1 c.in-1.is refl s.tile)
-    (mirror_there (offset_of s.mode 0) (offset_of s.mode 1) (pointy_mirrors s.mode) s.tile (known s.mode) c.to_flat-in-1.result c.pair_answer.result c.tile.ensures c.to_flat-in-1.ensures c.pair_answer.ensures)
+pub to_flat-requires : goal.to_flat-requires
+to_flat-requires c = rw c.tile.ensures (limit_by _ _ ∙ c.in_ok-axes.ensures.0)
 
-pub returns-in_default : goal.returns-in_default
-returns-in_default c =
+pub returns-in_err-pair : goal.returns-in_err-pair
+returns-in_err-pair c =
+    let p = err_from_is_err_and c.from_residual-in_err-pair.result c.from_residual-in_err-pair.ensures.1 in
+    let u = c.in_err-pair.ensures in
+    rw (p.1, p.2, u.1) (to_unknown _ _ _ c.in_ok-axes.ensures.0 (rw u.0))
+
+pub returns : goal.returns
+returns c =
     let s = c.args in
-    let zero : s.orientation ≡ 0 → ⊥ = search rules in
-    let one : s.orientation ≡ 1 → ⊥ = search rules in
-    told_same c.unknown.result (to_none s.tile (known s.mode && known s.orientation) (offset_of s.mode s.orientation s.tile) (orientation_unknown s.mode s.orientation zero one)) c.unknown.ensures
+    let a = c.in_ok-axes.ensures in
+    let p = c.in_ok-pair.ensures in
+    to_found s.tile _ (offset_of s.mode s.orientation s.tile) a.0 (rw (p.0, a.1)) _ (there_is (offset_of s.mode) (pointy_mirrors s.mode) s.orientation (a.1, a.2) s.tile c.tile.ensures p.1 c.pair.ensures)

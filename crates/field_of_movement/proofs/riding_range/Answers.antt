@@ -7,4 +7,4 @@ use Rattle.field_of_movement.proofs.riding_range.Goals as goal
 pub returns : goal.returns
 returns c =
     let a = c.args in
-    ranges_accepted a.map a.efforts.now a.start a.budget a.totals.now _ c.in-Found.ensures (λ i. omega (arith, c.type_inv.efforts i)) _ c.fill_totals.ensures
+    ranges_accepted a.map a.efforts.now a.start a.budget a.totals.now _ c.in_ok-index.ensures (λ i. omega (arith, c.type_inv.efforts i)) _ c.fill_totals.ensures

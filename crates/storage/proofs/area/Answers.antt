@@ -1,14 +1,12 @@
--- `area` meets its contract: 0 for a map that is refused, else the area of its radius.
+-- `area` meets its contract: the area of the radius for a map that is fine, else 0.
 use mathlib.Core.Path.{sym, ◌∙◌}
-use Rattle.storage.proofs.Maps.{fine, tiles_refused, tiles_fine}
+use native.Mathlib.Omega.{arith}
+use Rattle.hexes.proofs.Tells.{refusal_number}
+use Rattle.storage.proofs.Maps.{judged_fine, tiles_refused, tiles_fine}
 use Rattle.storage.proofs.area.Goals as goal
 
-pub returns-then-refusal_of-ne0 : goal.returns-then-refusal_of-ne0
-returns-then-refusal_of-ne0 c = tiles_refused _ (λ e. c.if-refusal_of-ne0.true (c.refusal_of.ensures ∙ e))
+pub returns-in-Ok : goal.returns-in-Ok
+returns-in-Ok c = rw (← c.in-Ok.ensures) (c.area.ensures ∙ sym (tiles_fine _ (judged_fine c.in-Ok.fine)))
 
--- Past the test the map is fine.
-pub area_of-requires : goal.area_of-requires
-area_of-requires c = (fine _ (sym c.refusal_of.ensures ∙ c.if-refusal_of-ne0.false)).small
-
-pub returns : goal.returns
-returns c = c.area_of.ensures ∙ sym (tiles_fine _ (sym c.refusal_of.ensures ∙ c.if-refusal_of-ne0.false))
+pub returns-in-Err : goal.returns-in-Err
+returns-in-Err c = tiles_refused _ (λ z. omega (arith, refusal_number c.in-Err.field-0))

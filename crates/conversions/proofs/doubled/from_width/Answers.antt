@@ -1,7 +1,6 @@
 -- `from_width` meets its contract: an even gap's half gives the tile that is judged, and a pair with an odd gap has no tile.
 use mathlib.Core.Path.{◌≡◌, refl, sym, ap, ap₂, ◌∙◌}
 use Prim.Native.Nat.{◌<◌, ◌^◌}
-use native.Mathlib.Omega.{arith}
 use lib.IntN.{ℤ, ◌-ℤ◌}
 use lib.Signed.{mag}
 use mir.Syntax.{w32, w64}
@@ -27,7 +26,7 @@ returns-then-wrapped-ne0 c =
     let row : SFits w32 c.args.pair.row = search rules in
     let gap = gap_is _ _ _ column row c.difference-gap.type_inv c.difference-gap.ensures.value in
     let parity = c.wrapped.ensures ∙ ap (λ (z : ℤ). remainder z 2) gap in
-    (omega arith, from_known refl (TheTile.none (width_none c.args.pair (odd_of _ (λ z. c.if-wrapped-ne0.true (parity ∙ z))))))
+    from_known refl (TheTile.none (width_none c.args.pair (odd_of _ (λ z. c.if-wrapped-ne0.true (parity ∙ z)))))
 
 pub returns : goal.returns
 returns c =
@@ -37,4 +36,4 @@ returns c =
     let parity = c.wrapped.ensures ∙ ap (λ (z : ℤ). remainder z 2) gap in
     let x = read w64 c.half.result c.half.type_inv ∙ c.half.ensures ∙ ap (λ (z : ℤ). quotient z 2) gap in
     let same = ap₂ (λ (x y : ℤ). doubled_of 0 (tile x y)) x (read_wide row) ∙ width_tile c.args.pair (sym parity ∙ c.if-wrapped-ne0.false) in
-    judged_tells _ _ _ _ c.judged.result refl same c.judged.ensures
+    judged_tells _ _ _ _ c.try_from.result refl same c.try_from.ensures

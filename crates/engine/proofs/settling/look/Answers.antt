@@ -1,13 +1,13 @@
--- `look` meets its contract: four ways through it change nothing, and one lowers the tile.
+-- `look` meets its contract: where a test fails, the step lowers nothing, and where all four hold, the tile is lowered.
 use native.Mathlib.Omega.{arith}
-use Rattle.engine.specs.Settling.{Kept, Looked}
-use Rattle.engine.proofs.Looking.{lowered}
+use Rattle.engine.proofs.Looking.{looked_same, lowered}
 use Rattle.engine.proofs.settling.look.Goals as goal
 
-pub returns-then-x-total_of : goal.returns-then-x-total_of
-returns-then-x-total_of c =
+pub returns-then-x-total : goal.returns-then-x-total
+returns-then-x-total c =
     let x = c.args in
-    let both : Kept x.a x.base x.tree.now c.set_leaf.new.tree × Looked x.a x.base x.budget x.index x.w x.tree.now c.set_leaf.new.tree =
-    lowered x.a x.base x.budget x.index x.w x.tree.now c.requires.fit (omega arith) (omega arith) (omega arith) (omega (arith, c.if-x-total_of.true, c.total_of.ensures)) c.set_leaf.new.tree
-    (rw c.open_leaf.ensures at c.set_leaf.ensures) in
-    record { kept = both.0; looked = both.1 }
+    let both = lowered x.base x.budget c.in-Some.index.0 x.w x.tree.now c.requires.budget_le_largest_total (omega arith) (omega arith) (omega arith) (omega (arith, c.if-x-total.true, c.total.ensures)) c.lower.new.self c.lower.ensures in
+    record { kept = both.0; looked = rw c.in-Some.is both.1 }
+
+pub returns-else-t-tree-clause-looked : goal.returns-else-t-tree-clause-looked
+returns-else-t-tree-clause-looked c = rw c.in-Some.is (grind (arith, looked_same))

@@ -1,9 +1,9 @@
--- The steps by the directions below d have been looked at.
+-- The steps by the directions below the index have been looked at.
 use Rattle.engine.specs.Settling.{Kept, LookedAround}
 use Rattle.engine.proofs.settling.look_around.Given as goal
 
-abbrev pub invariant-loop-d : goal.invariant-loop-d
-invariant-loop-d l = record {
-  kept : Kept l.a l.base l.fn.tree l.tree;
-  looked : LookedAround l.a l.base l.budget l.to l.costs l.d l.fn.tree l.tree;
+abbrev pub invariant-loop-to : goal.invariant-loop-to
+invariant-loop-to l = record {
+  kept : Kept l.base l.fn.tree l.tree;
+  looked : LookedAround l.base l.budget l.fn.steps l.to-index l.fn.tree l.tree;
 }

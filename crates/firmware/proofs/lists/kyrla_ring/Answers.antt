@@ -13,5 +13,5 @@ pub returns : goal.returns
 returns c =
     let a = c.args in
     let centre = read_tile c.ranges.cx c.ranges.cy in
-    let answer = read w64 c.tiles_told.result c.tiles_told.type_inv ∙ c.tiles_told.ensures in
+    let answer = read w64 c.answer_told.result c.answer_told.type_inv ∙ c.answer_told.ensures in
     list_call (λ (t : Tile). refusal_of t a.range a.range a.direction a.sense) (λ (t : Tile). ring t a.direction a.sense a.range) centre a.run.now _ _ _ answer c.ring.ensures

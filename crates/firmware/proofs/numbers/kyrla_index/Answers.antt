@@ -10,4 +10,4 @@ pub returns : goal.returns
 returns c =
     let made = c.map_at-map.ensures ∙ read_map c.args.radius c.ranges.cx c.ranges.cy in
     let asked = read_tile c.ranges.x c.ranges.y in
-    read w64 c.index_told.result c.index_told.type_inv ∙ c.index_told.ensures ∙ index_call made asked c.to_hexmod_coordinates.result c.to_hexmod_coordinates.ensures
+    read w64 c.answer_told.result c.answer_told.type_inv ∙ c.answer_told.ensures ∙ index_call made asked c.to_hexmod_coordinates-found.result c.map.result c.to_hexmod_coordinates-found.ensures c.map.ensures.cases

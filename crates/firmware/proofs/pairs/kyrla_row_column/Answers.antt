@@ -3,17 +3,17 @@ use mathlib.Core.Path.{◌≡◌, refl, sym, subst}
 use mathlib.Core.Bool.{Bool, true, false}
 use Prim.Native.Nat.{ℕ, zero, suc}
 use native.Mathlib.Omega.{arith}
-use Rattle.hexes.specs.Answers.{Told, accepted, refused, provided}
+use Rattle.std.specs.Prelude.{Ok}
+use Rattle.hexes.specs.Answers.{Told, Answer, accepted, refused, provided}
 use Rattle.hexes.specs.Refusals.{not_of_map}
 use Rattle.hexes.specs.declared.Tile.{Tile}
-use Rattle.storage.specs.Hexagonal.{row_column, row_column_in, row_column_answer, to_row_column}
+use Rattle.storage.specs.Hexagonal.{row_column, row_column_in, RowColumnTells, to_row_column}
 use Rattle.storage.specs.Maps.{map_refusal, of_map, judged_by, to_place}
 use Rattle.storage.specs.declared.Map.{Map}
 use Rattle.storage.specs.declared.RowColumn.{RowColumn}
 use Rattle.storage.proofs.Maps.{fine}
 use Rattle.storage.proofs.Rows.{row_low, column_low}
 use Rattle.firmware.specs.Pairs.{Signed}
-use Rattle.firmware.proofs.Answering.{told_rule}
 use Rattle.firmware.proofs.pairs.kyrla_row_column.Goals as goal
 
 -- A map has at most 121 rows, and no row more tiles than that.
@@ -26,6 +26,11 @@ entries_small map t = go (map_refusal map) (of_map map t) refl refl
     go zero false z i = (omega arith, omega arith)
     go (suc n) b z i = (omega arith, omega arith)
 
-pub of_row_column-pair-requires : goal.of_row_column-pair-requires
-of_row_column-pair-requires c =
-    subst (λ (told : Told RowColumn). Signed told.value) (sym (told_rule (row_column 0 0) _ (row_column_answer c.to_row_column.result) c.to_row_column.ensures)) (entries_small _ _)
+-- So a row and a column that are found are as small.
+found_small : (map : Map) (t : Tile) (a : Answer RowColumn) → RowColumnTells a (λ told. told ≡ to_row_column map t) → (p : RowColumn) → a ≡ Ok p → Signed p
+found_small map t a h p is =
+    let k = subst (λ (b : Answer RowColumn). RowColumnTells b (λ told. told ≡ to_row_column map t)) is h in
+    subst (λ (told : Told RowColumn). Signed told.value) (sym k) (entries_small map t)
+
+pub map-pair-requires : goal.map-pair-requires
+map-pair-requires c = found_small _ _ c.to_row_column.result c.to_row_column.ensures

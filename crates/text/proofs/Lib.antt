@@ -1,0 +1,2 @@
+-- Each call's promise leaves one answer.
+pub mod Unique

@@ -1,0 +1,3 @@
+-- The definitions of rows and of numbers that are read digit by digit.
+pub mod Digits
+pub mod Rows
