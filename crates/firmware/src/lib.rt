@@ -14,7 +14,7 @@ ghost use Rattle.firmware.specs.Calls.{minus, answer_told, map_at, noted, RangeC
 
 use field_of_movement::Fault;
 use hexes::{Refusal, Tile};
-use storage::{Index, Map};
+use storage::Map;
 
 // Minus a number: how C is told a refusal.
 fn minus(number: u32) -> i64
@@ -43,28 +43,27 @@ fn map_at(cx: i32, cy: i32, radius: u32) -> Map
     }
 }
 
-// What the totals check has answered, as C is told it, with a broken index written to the run, where it has an entry.
-#[tactic(auto, using(crate::proofs::Noting::noted_refused), unfolding(crate::specs::Calls::noted))]
+// What the totals check has answered, as C is told it, with a broken index written down.
 fn verdict_told(verdict: Result<(), Fault>, broken: &mut [u32]) -> i64
     ensures value { result ≡ minus (verdict_number verdict) }
     ensures broken_after { broken.new ≡ noted (verdict_number verdict) (verdict_index verdict) broken.old }
 {
+    note(verdict, broken);
     match verdict {
         Ok(()) => 0,
-        Err(Fault::Refused(refusal)) => minus(refusal.number()),
-        Err(Fault::NotRight(index)) => {
-            note(broken, index);
-            minus(9)
-        }
+        Err(fault) => minus(fault.number()),
     }
 }
 
-// Writes an index to the first entry of a run, where it has one.
-fn note(broken: &mut [u32], index: Index)
-    ensures { broken.new ≡ set broken.old 0 index.0 }
+// Writes a broken index to the first entry of a run, where there is one and the run has an entry.
+#[tactic(auto, using(crate::proofs::Noting::noted_refused), unfolding(crate::specs::Calls::noted))]
+fn note(verdict: Result<(), Fault>, broken: &mut [u32])
+    ensures { broken.new ≡ noted (verdict_number verdict) (verdict_index verdict) broken.old }
 {
-    if let Some(first) = broken.first_mut() {
-        *first = index.0;
+    if let Err(Fault::NotRight(index)) = verdict {
+        if let Some(first) = broken.first_mut() {
+            *first = index.0;
+        }
     }
 }
 

@@ -26,8 +26,9 @@ pub struct Place {
     pub y: i64,
 }
 
-// A direction number, 0 to 5 counter-clockwise from (1, 0). It is a type of its own, so that no index is taken for one.
-#[derive(Clone, Copy, Debug, PartialEq, Eq)]
+// A direction number, 0 to 5 counter-clockwise from (1, 0). It is a type of its own, so that no index is taken for one. Numbers that differ by 6
+// name one direction, so none is compared with another.
+#[derive(Clone, Copy, Debug)]
 pub struct Direction(pub u32);
 
 // What a direction adds to a tile's x and y.

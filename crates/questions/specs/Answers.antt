@@ -62,3 +62,8 @@ pub record Lays (entry : List ℤ) (r : Option Laid) (exit : List ℤ) : Type 0 
 abbrev pub Takes : ℕ → Option Laid → Type 0
 Takes words (Some laid) = laid.took ≡ words
 Takes words None = Unit
+
+-- It is said that so many words were taken and so many numbers answered, or that the words could not be read.
+abbrev pub Says : ℕ → ℕ → Option Laid → Type 0
+Says words numbers (Some laid) = (laid.took ≡ words) × (laid.length ≡ numbers)
+Says words numbers None = Unit {0}

@@ -23,7 +23,8 @@ pub struct Answer {
     pub numbers: Numbers,
 }
 
-// What is said of an answer that is laid out: how many words its question took, the kind included, and how many numbers it has.
+// What is said of an answer that is laid out: how many words its question took, the kind included, and how many numbers it has, also where
+// the array has not room for all of them.
 #[derive(Clone, Copy, Debug, PartialEq, Eq)]
 pub struct Laid {
     pub took: usize,

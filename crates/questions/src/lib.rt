@@ -1,4 +1,4 @@
-// What the questions of every subject share: how the words of a line become arguments and efforts, and how an answer becomes numbers.
+// What the questions of every subject share: how the words of a line become arguments and entries of tables, and how an answer becomes numbers.
 
 #![tactic(auto)]
 

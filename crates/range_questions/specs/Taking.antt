@@ -1,12 +1,8 @@
 -- How many words the questions about tables take, and how many numbers their answers have.
 use Rattle.std.specs.Prelude.{◌≡◌, List, ℕ, ◌+◌, ℤ, Option, Some, None}
+use Rattle.questions.specs.Answers.{Says}
 use Rattle.questions.specs.Arguments.{unsigned_at}
 use Rattle.questions.specs.declared.answer.Laid.{Laid}
-
--- It is said that so many words were taken and so many numbers answered, or that the words could not be read.
-abbrev pub Says : ℕ → ℕ → Option Laid → Type 0
-Says words numbers (Some laid) = (laid.took ≡ words) × (laid.length ≡ numbers)
-Says words numbers None = Unit {0}
 
 -- What is said of a question with so many efforts and totals. The riding range takes nine words and the efforts, and answers a number and the totals; the totals check takes the
 -- totals too, and answers a number and an index. There is no other kind.

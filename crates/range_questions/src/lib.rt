@@ -5,7 +5,8 @@
 #![tactic(auto)]
 
 ghost use Rattle.std.specs.Prelude.{◌+◌, length, Some};
-ghost use Rattle.range_questions.specs.Taking.{Says, TakesOf, TakesTables};
+ghost use Rattle.questions.specs.Answers.{Says};
+ghost use Rattle.range_questions.specs.Taking.{TakesOf, TakesTables};
 
 use field_of_movement::Fault;
 use hexes::Tile;

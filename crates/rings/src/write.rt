@@ -112,7 +112,7 @@ fn ranges_of(first: u32, last: u32) -> u32
     requires { last ≤ range_limit }
     ensures { result ≡ last + 1 - first }
 {
-    if last < first { 0 } else { last + 1 - first }
+    (last + 1).saturating_sub(first)
 }
 
 // A figure at the ranges first to last, listed to a lent run.

@@ -1,12 +1,8 @@
 -- How many words the question about routes takes, and how many numbers its answer has.
 use Rattle.std.specs.Prelude.{◌≡◌, List, ℕ, ◌+◌, ◌*◌, ℤ, Option, Some, None}
+use Rattle.questions.specs.Answers.{Says}
 use Rattle.questions.specs.Arguments.{unsigned_at}
 use Rattle.questions.specs.declared.answer.Laid.{Laid}
-
--- It is said that so many words were taken and so many numbers answered, or that the words could not be read.
-abbrev pub Says : ℕ → ℕ → Option Laid → Type 0
-Says words numbers (Some laid) = (laid.took ≡ words) × (laid.length ≡ numbers)
-Says words numbers None = Unit {0}
 
 -- What is said of a question with so many efforts, ranks and entries of a run. The route takes eleven words and the efforts, and answers two numbers, the entries, and two numbers for
 -- each rank.

@@ -7,7 +7,8 @@
 mod laying;
 
 ghost use Rattle.std.specs.Prelude.{◌+◌, ◌*◌, length, Some};
-ghost use Rattle.route_questions.specs.Taking.{Says, TakesOf, TakesRoute};
+ghost use Rattle.questions.specs.Answers.{Says};
+ghost use Rattle.route_questions.specs.Taking.{TakesOf, TakesRoute};
 
 use hexes::Tile;
 use questions::answer::{Laid, lay_entries, lay_head};

@@ -88,7 +88,7 @@ module _ (map : Map) (i : ℕ) (z : map_refusal map ≡ 0) (h : i < area_of map.
   unfolding One
   never_lost n l p = let k : n ≡ 0 = ap (λ (v : Told Tile). v.number) (one_told map (index i) _ _ p goes_back) in omega arith
 
--- The row of six has what stands beside the tile; read as numbers, what is near; and an entry that is an index is one of the map.
+-- The row of six has what stands beside the tile, and, read as numbers, what is near.
 module _ (map : Map) (i : ℕ) (entries : List (Option Index)) (z : map_refusal map ≡ 0) (h : i < area_of map.radius) (s : SixNeighbors map (index i) entries) (d : ℕ) (l : d < 6) where
   entry_beside : get_or entries d None ≡ beside_at map (tile_at_index map i) d
   entry_beside =
@@ -99,10 +99,3 @@ module _ (map : Map) (i : ℕ) (entries : List (Option Index)) (z : map_refusal 
   pub entries_near : number_or_none (get_or entries d None) ≡ near_in map i d
   unfolding near_in
   entries_near = ap number_or_none entry_beside ∙ number_beside map (tile_at_index map i) d
-
-  pub entry_below : (j : Index) → get_or entries d None ≡ Some j → j.0 < area_of map.radius
-  unfolding beside_at
-  entry_below j e =
-      let t = neighbor_of (tile_at_index map i) d in
-      let same : index_of map t ≡ j = (cond_some (of_map map t) (index_of map t) j (sym entry_beside ∙ e)).1 in
-      omega (arith, ap (λ (v : Index). v.0) same, index_below map t)

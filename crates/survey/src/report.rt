@@ -33,8 +33,7 @@ pub(crate) fn refused(rt: &impl Print, refusal: Refusal) -> io::Result<()> {
 pub(crate) fn verdict(rt: &impl Print, verdict: Result<(), Fault>) -> io::Result<()> {
     match verdict {
         Ok(()) => println!(rt; "check accepted"),
-        Err(Fault::NotRight(index)) => println!(rt; "refused 9 at {}", index.0),
-        Err(Fault::Refused(refusal)) => refused(rt, refusal),
+        Err(fault) => println!(rt; "refused {fault}"),
     }
 }
 

@@ -25,6 +25,9 @@ push_unique {T} n item before r s x y p q = go (dec_lt (length before) n)
     go (yes h) = let a = p.room h in let b = q.room h in (a.0 ∙ sym b.0, a.1 ∙ sym b.1)
     go (no h) = let l : n ≤ length before = omega arith in let a = p.full l in let b = q.full l in (a.0 ∙ sym b.0, a.1 ∙ sym b.1)
 
+pub new_unique : {T : Type 0} {x y : List T} → x ≡ [] → y ≡ [] → x ≡ y
+new_unique p q = p ∙ sym q
+
 pub clear_unique : {T : Type 0} {x y : List T} → x ≡ [] → y ≡ [] → x ≡ y
 clear_unique p q = p ∙ sym q
 

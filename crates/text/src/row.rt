@@ -1,6 +1,6 @@
 // Things one behind the other, in room of a fixed size.
 
-ghost use Rattle.std.specs.Prelude.{◌≡◌, ◌≤◌, ℕ, List, [], length, take};
+ghost use Rattle.std.specs.Prelude.{◌≡◌, ◌≤◌, List, [], take};
 ghost use Rattle.text.specs.Rows.{Pushed};
 
 use std::marker::Model;

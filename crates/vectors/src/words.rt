@@ -1,4 +1,5 @@
-// From bytes to words. A line of text becomes whole numbers, one byte at a time, so that a word or a line may lie across two blocks of input.
+// From bytes to words. A line of text becomes whole numbers, one byte at a time, so that a word or a line may lie across two blocks of input. The reader of valleys is another
+// one: it knows no lines and no comments, and `-` alone is a word of its own; what both need is in `text`.
 
 use text::{Digits, Row};
 
