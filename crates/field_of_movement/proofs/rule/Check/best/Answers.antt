@@ -1,6 +1,7 @@
 -- `best` meets its contract: at the loop's head it is the best offer by the directions below d.
 use mathlib.Core.Path.{◌∙◌}
 use native.Mathlib.Omega.{arith}
+use borrow.Author.Rules.{rules}
 use Rattle.storage.proofs.Maps.{fine, area_small}
 use Rattle.storage.proofs.Near.{entries_near}
 use Rattle.terrain.specs.LandOfMap.{against}
@@ -22,4 +23,5 @@ loop-d-preserved c =
     let d = c.loop-d.d in
     let near = entries_near s.map i c.all_neighbors-beside.result s.fine (omega (arith, c.requires, s.totals_len)) c.all_neighbors-beside.ensures (against d) (omega arith) in
     let offered = offer_is s.map s.efforts.now s.totals.now i d _ _ s.totals_len near c.price_of-price.ensures.value in
-    c.min-best.ensures ∙ best_next s.map s.efforts.now s.totals.now i d _ _ c.loop-d.invariant (c.offer.ensures ∙ offered)
+    let next = best_next s.map s.efforts.now s.totals.now i d _ _ c.loop-d.invariant (c.offer.ensures ∙ offered) in
+    search (rules, next)
