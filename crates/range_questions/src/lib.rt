@@ -119,10 +119,10 @@ fn totals_check(
     }
     let TableQuestion { map, start, budget } = question;
     let verdict = field_of_movement::check_totals(map, efforts, start, budget, totals);
-    let (number, broken) = match verdict {
-        Ok(()) => (0, Index(0)),
-        Err(Fault::Refused(refusal)) => (refusal.number(), Index(0)),
-        Err(Fault::NotRight(index)) => (9, index),
+    let number = verdict.map_or_else(Fault::number, |()| 0);
+    let broken = match verdict {
+        Err(Fault::NotRight(index)) => index,
+        _ => Index(0),
     };
     put(numbers, 0, i64::from(number));
     put(numbers, 1, i64::from(broken.0));
