@@ -118,6 +118,9 @@ module _ (map : Map) (t : Tile) (d : ℕ) where
 
 -- An entry tells which: no tile of the map has the index that stands for none.
 module _ (map : Map) (t : Tile) (d : ℕ) (small : map.radius ≤ radius_limit) where
+  pub below_none : index_in map (neighbor_of t d) < no_index
+  below_none = omega (arith, area_small map.radius small, index_below map (neighbor_of t d))
+
   found_test : (b : Bool) → of_map map (neighbor_of t d) ≡ b → (beside_in map t d ≡ no_index → ⊥) → of_map map (neighbor_of t d) ≡ true
   found_test true e h = e
   found_test false e h = absurd (h (sym (beside_off map t d e)))

@@ -6,8 +6,7 @@ use mathlib.Core.List.{List}
 use Prim.Native.Nat.{ℕ, ◌+◌, ◌%◌, ◌<◌, ◌≤◌}
 use native.Mathlib.Omega.{arith}
 use lib.ListN.{get_or}
-use Rattle.std.specs.Prelude.{Option, None, Some}
-use Rattle.std.proofs.lemmas.Option.{cond_some}
+use Rattle.std.specs.Prelude.{Option, None}
 use Rattle.hexes.specs.Answers.{Told, accepted, refused_tile}
 use Rattle.hexes.specs.Limits.{radius_limit}
 use Rattle.hexes.specs.Tiles.{neighbor_of, distance_of}

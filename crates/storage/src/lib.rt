@@ -92,6 +92,7 @@ pub fn neighbor(map: Map, index: Index, direction: Direction) -> Result<Index, R
 
 // The indices of all six neighbours at once, for what asks for them tile after tile: none where a neighbour is not of the map, and six times none where the map or the index
 // is refused.
+#[inline(always)]
 pub fn all_neighbors(map: Map, index: Index) -> [Option<Index>; 6]
     ensures { SixNeighbors map index result }
 {

@@ -17,7 +17,7 @@ use ride::Asked;
 use std::env::FillError;
 use std::io;
 use std::rt::Env;
-use words::Reading;
+use words::{Reading, Word, Words};
 
 // Does what the arguments of the program ask for: without one the plan, and with `check` alone the check.
 // It takes the runtime itself: a bound on the arguments would bring in all that the toolchain assumes of the environment too, which nothing here asks for.
@@ -56,11 +56,12 @@ fn is_check(rt: &HostRuntime) -> bool {
 
 // Reads standard input to its end, and tells what is asked of it.
 fn told(rt: &(impl Input + Print), asked: Asked) -> io::Result<()> {
+    let mut words = Words::new(Word::Number(0));
     let mut reading = Reading::new();
     text::input::each_byte(rt, |byte| {
-        reading.take(byte);
+        reading.take(byte, &mut words);
         Ok(())
     })?;
-    reading.end();
-    ride::tell(rt, asked, reading.words())
+    reading.end(&mut words);
+    ride::tell(rt, asked, words.as_slice())
 }

@@ -28,10 +28,12 @@ impl Entry for u32 {
 
 // The word at a place as an argument.
 pub(crate) fn argument_at<T: Number>(words: &[Word], at: usize) -> Result<T, Trouble> {
-    match words.get(at) {
-        Some(Word::Number(number)) => T::of_word(*number).ok_or(Trouble::Unreadable(at)),
-        _ => Err(Trouble::Unreadable(at)),
-    }
+    let number = match words.get(at) {
+        Some(Word::Number(size)) => i64::from(*size),
+        Some(Word::Below(size)) => 0 - i64::from(*size),
+        _ => return Err(Trouble::Unreadable(at)),
+    };
+    T::of_word(number).ok_or(Trouble::Unreadable(at))
 }
 
 // The words at a place and behind it as a tile.

@@ -8,10 +8,11 @@ use text::{Digits, Row};
 // How many words the longest input has, and one more, so that a word too many is seen.
 const WORDS: usize = HEAD + 2 * limits::AREA + 1;
 
-// A word: a number, `-` alone, or anything else.
+// A word: a number of 32 bits, one below zero, `-` alone, or anything else. No field takes a larger number, so that such a one is odd, and a word takes eight bytes.
 #[derive(Clone, Copy)]
 pub(crate) enum Word {
-    Number(i64),
+    Number(u32),
+    Below(u32),
     Dash,
     Odd,
 }
@@ -29,44 +30,42 @@ enum Stage {
     Odd,
 }
 
-// What is kept from byte to byte: the word in progress, and the words that are done.
-#[derive(Drop)]
+// The words that are done.
+pub(crate) type Words = Row<Word, WORDS>;
+
+// What is kept from byte to byte: the word in progress. The words that are done are lent to it and not kept in it, so that it is small, and what is done with a byte moves nothing else.
+#[derive(Clone, Copy)]
 pub(crate) struct Reading {
     stage: Stage,
-    words: Row<Word, WORDS>,
 }
 
 impl Reading {
-    // Nothing is read yet.
+    // No word is in progress.
     pub(crate) fn new() -> Self {
         Reading {
             stage: Stage::Between,
-            words: Row::new(Word::Odd),
         }
     }
 
-    // Takes in one more byte. Both kinds of line end are white space.
-    pub(crate) fn take(&mut self, byte: u8) {
-        let stage = self.stage;
+    // Takes in one more byte. Most bytes are digits, so they are asked for first. Both kinds of line end are white space.
+    pub(crate) fn take(&mut self, byte: u8, words: &mut Words) {
+        if byte.is_ascii_digit() {
+            self.stage = after_digit(self.stage, byte - b'0');
+            return;
+        }
         match byte {
-            b' ' | b'\t' | b'\r' | b'\n' => self.end(),
-            b'0'..=b'9' => self.stage = after_digit(stage, byte - b'0'),
-            b'-' => self.stage = after_minus(stage),
+            b' ' | b'\t' | b'\r' | b'\n' => self.end(words),
+            b'-' => self.stage = after_minus(self.stage),
             _ => self.stage = Stage::Odd,
         }
     }
 
     // White space and the end of the input end the word in progress, where there is one. Where there is no room for it, it is dropped: a full row has a word too many already.
-    pub(crate) fn end(&mut self) {
+    pub(crate) fn end(&mut self, words: &mut Words) {
         if let Some(word) = word_of(self.stage) {
-            self.words.push(word);
+            words.push(word);
             self.stage = Stage::Between;
         }
-    }
-
-    // The words that are done.
-    pub(crate) fn words(&self) -> &[Word] {
-        self.words.as_slice()
     }
 }
 
@@ -75,8 +74,17 @@ fn word_of(stage: Stage) -> Option<Word> {
     match stage {
         Stage::Between => None,
         Stage::Minus => Some(Word::Dash),
-        Stage::Digits(digits) => Some(digits.value().map_or(Word::Odd, Word::Number)),
+        Stage::Digits(digits) => Some(number_of(digits)),
         Stage::Odd => Some(Word::Odd),
+    }
+}
+
+// The number that the digits of a word make.
+fn number_of(digits: Digits) -> Word {
+    match u32::try_from(digits.magnitude) {
+        Ok(size) if digits.negative => Word::Below(size),
+        Ok(size) => Word::Number(size),
+        Err(_) => Word::Odd,
     }
 }
 
