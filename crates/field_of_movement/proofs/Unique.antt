@@ -18,7 +18,7 @@ use Rattle.terrain.specs.Judging.{call_refusal}
 use Rattle.terrain.proofs.Judging.{judged}
 use Rattle.terrain.proofs.Totals.{Efforts, one_totals}
 use Rattle.terrain.proofs.Verdicts.{one_verdict}
-use Rattle.field_of_movement.specs.Calls.{Ranges, Checks, fault_number, fault_index, verdict_number, verdict_index}
+use Rattle.field_of_movement.specs.Calls.{Ranges, Checks, fault_number, fault_index, verdict_number, verdict_index, fault_text}
 use Rattle.field_of_movement.specs.declared.fault.Fault.{Fault}
 
 pub riding_range_unique : (map : Map) (efforts : List ℕ) (start : Tile) (budget : ℕ) (before after after' : List ℕ) (n n' : ℕ) → Efforts efforts → Ranges map efforts start budget before after n → Ranges map efforts start budget before after' n' → (n ≡ n') × (after ≡ after')
@@ -49,6 +49,12 @@ check_totals_unique map efforts start budget totals n i n' i' p q = go (call_ref
 
 pub fault_number_unique : (f : Fault) {r s : ℕ} → r ≡ fault_number f → s ≡ fault_number f → r ≡ s
 fault_number_unique f p q = p ∙ sym q
+
+pub fault_text_unique : (f : Fault) {r s : List ℕ} → r ≡ fault_text f → s ≡ fault_text f → r ≡ s
+fault_text_unique f p q = p ∙ sym q
+
+pub fault_of_unique : (refusal : Refusal) {f g : Fault} → f ≡ Fault.Refused refusal → g ≡ Fault.Refused refusal → f ≡ g
+fault_of_unique refusal p q = p ∙ sym q
 
 -- The numbers leave one answer of the code.
 pub answer_one : (r s : Answer (Unit {0})) → number_told r ≡ number_told s → r ≡ s

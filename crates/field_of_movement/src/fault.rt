@@ -1,7 +1,7 @@
 // What is wrong with a totals table: the call is refused, or the table is not right.
 
-ghost use Rattle.std.specs.Prelude.{◌≡◌};
-ghost use Rattle.field_of_movement.specs.Calls.{fault_number};
+ghost use Rattle.std.specs.Prelude.{◌≡◌, Some};
+ghost use Rattle.field_of_movement.specs.Calls.{fault_number, fault_text};
 ghost use Rattle.field_of_movement.specs.declared.fault.Fault.TheVariants.{Refused};
 
 use hexes::Refusal;
@@ -40,10 +40,12 @@ impl From<Refusal> for Fault {
 
 // A fault is printed as its number, and where the table is not right the index behind it.
 impl fmt::Display for Fault {
+    ghost output = { λ fault. Some (fault_text fault) };
+
     fn fmt<W: fmt::Write>(&self, f: &mut fmt::Formatter<W>) -> fmt::Result {
         match self {
             Fault::Refused(refusal) => write!(f, "{refusal}"),
-            Fault::NotRight(index) => write!(f, "9 at {}", index.0),
+            Fault::NotRight(index) => write!(f, "{} at {}", self.number(), index.0),
         }
     }
 }

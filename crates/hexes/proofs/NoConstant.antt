@@ -1,12 +1,15 @@
 -- No one answer serves every input: a call that answers the same always, or refuses always, breaks its promise. Two inputs show it of each call.
 use mathlib.Core.Path.{◌≡◌, refl, sym, ap, ◌∙◌}
 use mathlib.Core.Bool.{Bool, true, false}
+use mathlib.Core.List.{List}
 use Prim.Native.Nat.{ℕ, ◌-◌}
 use native.Mathlib.Omega.{arith}
 use lib.IntN.{pos, nat_abs}
+use Rattle.std.specs.Prelude.{get_or}
+use Rattle.std.proofs.lemmas.Fmt.{decimal_digit}
 use Rattle.hexes.specs.Answers.{Told, Answer, origin, TileTells, judged_tile}
 use Rattle.hexes.specs.Directions.{step_of, turned_by}
-use Rattle.hexes.specs.Refusals.{number_of}
+use Rattle.hexes.specs.Refusals.{number_of, refusal_text}
 use Rattle.hexes.specs.Tiles.{tile, place, span, neighbor_of, distance_of, within_limit}
 use Rattle.hexes.specs.declared.Direction.{Direction}
 use Rattle.hexes.specs.declared.Place.{Place}
@@ -59,3 +62,7 @@ within_limit_no_constant r h = apart truth (h (tile (pos 1000001) (pos 0))) (h o
 
 pub refusal_number_no_constant : (r : ℕ) → ((e : Refusal) → r ≡ number_of e) → ⊥
 refusal_number_no_constant r h = apart (λ (n : ℕ). n - 1) (h Refusal.BeyondLimit) (h Refusal.TooLarge) refl refl
+
+-- The digits 1 and 2 are the characters 49 and 50.
+pub refusal_text_no_constant : (r : List ℕ) → ((e : Refusal) → r ≡ refusal_text e) → ⊥
+refusal_text_no_constant r h = apart (λ (text : List ℕ). get_or text 0 0 - 49) (h Refusal.BeyondLimit ∙ decimal_digit 1 (omega arith)) (h Refusal.TooLarge ∙ decimal_digit 2 (omega arith)) refl refl

@@ -1,10 +1,11 @@
 -- Each public call's promise leaves one answer: two answers that meet it are equal.
 use mathlib.Core.Path.{◌≡◌, sym, ◌∙◌}
 use mathlib.Core.Bool.{Bool}
+use mathlib.Core.List.{List}
 use Prim.Native.Nat.{ℕ}
 use Rattle.hexes.specs.Answers.{Answer, TileTells, judged_tile}
 use Rattle.hexes.specs.Directions.{step_of, turned_by}
-use Rattle.hexes.specs.Refusals.{number_of}
+use Rattle.hexes.specs.Refusals.{number_of, refusal_text}
 use Rattle.hexes.specs.Tiles.{place, neighbor_of, distance_of, within_limit}
 use Rattle.hexes.specs.declared.Direction.{Direction}
 use Rattle.hexes.specs.declared.Place.{Place}
@@ -39,3 +40,6 @@ within_limit_unique t p q = p ∙ sym q
 
 pub refusal_number_unique : (e : Refusal) {r s : ℕ} → r ≡ number_of e → s ≡ number_of e → r ≡ s
 refusal_number_unique e p q = p ∙ sym q
+
+pub refusal_text_unique : (e : Refusal) {r s : List ℕ} → r ≡ refusal_text e → s ≡ refusal_text e → r ≡ s
+refusal_text_unique e p q = p ∙ sym q

@@ -1,6 +1,6 @@
 -- The refusal numbers, each named once. `src/refusal.rt` gives the same numbers to the refusals of the code. 0 is no refusal. Where several apply the lowest is given, but for
 -- conversions from a grid, which judge an unknown number first, then an odd pair, then the limit.
-use Rattle.std.specs.Prelude.{ℕ, Option, None, Some}
+use Rattle.std.specs.Prelude.{ℕ, List, Option, None, Some, decimal}
 use Rattle.hexes.specs.declared.refusal.Refusal.{Refusal}
 
 -- A coordinate, or a centre, beyond the limit; or a pair whose tile is beyond it.
@@ -54,3 +54,7 @@ number_of Refusal.NoOpenPath = no_open_path
 abbrev pub number_given : Option Refusal → ℕ
 number_given None = 0
 number_given (Some e) = number_of e
+
+-- What is printed of a refusal: the decimal digits of its number.
+abbrev pub refusal_text : Refusal → List ℕ
+refusal_text e = decimal (number_of e)

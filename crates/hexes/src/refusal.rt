@@ -1,8 +1,8 @@
 // Why a call is refused. Each refusal has a number of its own, which C is told and which programs print; `specs/Refusals` names the same numbers for the promises. 0 is no refusal, and
 // 9 is told of a totals table, with the index at which it is not right: `field_of_movement::Fault`.
 
-ghost use Rattle.std.specs.Prelude.{◌≡◌};
-ghost use Rattle.hexes.specs.Refusals.{number_of};
+ghost use Rattle.std.specs.Prelude.{◌≡◌, Some};
+ghost use Rattle.hexes.specs.Refusals.{number_of, refusal_text};
 
 use std::error::Error;
 use std::fmt;
@@ -38,6 +38,8 @@ impl Refusal {
 
 // A refusal is printed as its number.
 impl fmt::Display for Refusal {
+    ghost output = { λ refusal. Some (refusal_text refusal) };
+
     fn fmt<W: fmt::Write>(&self, f: &mut fmt::Formatter<W>) -> fmt::Result {
         write!(f, "{}", self.number())
     }
