@@ -1,4 +1,4 @@
--- The refusal numbers, each named once. `src/refusal.rt` gives the same numbers to the refusals of the code. 0 is no refusal. Where several apply the lowest is given, but for
+-- The refusal numbers, each named once, and what is printed of a refusal. `src/refusal.rt` gives the same numbers to the refusals of the code. 0 is no refusal. Where several apply the lowest is given, but for
 -- conversions from a grid, which judge an unknown number first, then an odd pair, then the limit.
 use Rattle.std.specs.Prelude.{ℕ, List, Option, None, Some, decimal}
 use Rattle.hexes.specs.declared.refusal.Refusal.{Refusal}

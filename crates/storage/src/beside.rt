@@ -1,6 +1,6 @@
 // The indices beside a tile of a map that was judged. Neither a way back nor a division is needed: a step moves an index by the same number wherever it is made.
-// What the six entries are made of becomes part of the caller (`inline(always)`, here and at `all_neighbors`): the totals check asks tile after tile, and takes a quarter longer where each
-// entry is stored with its mark and read again.
+// What the six entries are made of becomes part of the caller (`inline(always)`, here and at `all_neighbors`): the totals check asks tile after tile, and takes nearly a third longer where
+// each entry is stored with its mark and read again.
 
 ghost use Rattle.std.specs.Prelude.{◌≡◌, true, ℕ, ◌<◌, ◌≤◌, length, get_or, pos, nat_abs, ◌+ℤ◌, None};
 ghost use Rattle.whole.specs.Euclid.{remainder};

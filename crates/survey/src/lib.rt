@@ -56,6 +56,7 @@ fn is_check(rt: &HostRuntime) -> bool {
 
 // Reads standard input to its end, and tells what is asked of it.
 fn told(rt: &(impl Input + Print), asked: Asked) -> io::Result<()> {
+    // Zeros are the blank that costs least.
     let mut words = Words::new(Word::Number(0));
     let mut reading = Reading::new();
     text::input::each_byte(rt, |byte| {

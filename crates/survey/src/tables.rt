@@ -30,7 +30,7 @@ impl Entry for u32 {
 pub(crate) fn argument_at<T: Number>(words: &[Word], at: usize) -> Result<T, Trouble> {
     let number = match words.get(at) {
         Some(Word::Number(size)) => i64::from(*size),
-        Some(Word::Below(size)) => 0 - i64::from(*size),
+        Some(Word::Negative(size)) => 0 - i64::from(*size),
         _ => return Err(Trouble::Unreadable(at)),
     };
     T::of_word(number).ok_or(Trouble::Unreadable(at))

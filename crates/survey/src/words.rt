@@ -5,14 +5,14 @@ use crate::tables::HEAD;
 use hexes::limits;
 use text::{Digits, Row};
 
-// How many words the longest input has, and one more, so that a word too many is seen.
-const WORDS: usize = HEAD + 2 * limits::AREA + 1;
+// How many words there is room for: as many as the longest input has, and one more, so that a word too many is seen.
+const ROOM: usize = HEAD + 2 * limits::AREA + 1;
 
-// A word: a number of 32 bits, one below zero, `-` alone, or anything else. No field takes a larger number, so that such a one is odd, and a word takes eight bytes.
+// A word: a number, the size of one behind a minus, `-` alone, or anything else. No field takes a number that 32 bits do not hold, so that such a one is odd, and a word takes eight bytes.
 #[derive(Clone, Copy)]
 pub(crate) enum Word {
     Number(u32),
-    Below(u32),
+    Negative(u32),
     Dash,
     Odd,
 }
@@ -31,7 +31,7 @@ enum Stage {
 }
 
 // The words that are done.
-pub(crate) type Words = Row<Word, WORDS>;
+pub(crate) type Words = Row<Word, ROOM>;
 
 // What is kept from byte to byte: the word in progress. The words that are done are lent to it and not kept in it, so that it is small, and what is done with a byte moves nothing else.
 #[derive(Clone, Copy)]
@@ -74,15 +74,15 @@ fn word_of(stage: Stage) -> Option<Word> {
     match stage {
         Stage::Between => None,
         Stage::Minus => Some(Word::Dash),
-        Stage::Digits(digits) => Some(number_of(digits)),
+        Stage::Digits(digits) => Some(read_number(digits)),
         Stage::Odd => Some(Word::Odd),
     }
 }
 
-// The number that the digits of a word make.
-fn number_of(digits: Digits) -> Word {
+// The word that digits make: their number, or an odd one where 32 bits do not hold it.
+fn read_number(digits: Digits) -> Word {
     match u32::try_from(digits.magnitude) {
-        Ok(size) if digits.negative => Word::Below(size),
+        Ok(size) if digits.negative => Word::Negative(size),
         Ok(size) => Word::Number(size),
         Err(_) => Word::Odd,
     }
